@@ -1,0 +1,5 @@
+pub mod Text
+pub mod Rows
+pub mod Run
+pub mod Printing
+pub mod Laws

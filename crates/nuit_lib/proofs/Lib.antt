@@ -1,0 +1,10 @@
+pub mod Pairs
+pub mod Numerals
+pub mod Lines
+pub mod Sources
+pub mod Ending
+pub mod Compiles
+pub mod Texts
+pub mod RunEnds
+pub mod Steps
+pub mod Clauses

@@ -1,0 +1,4 @@
+use Rattle.nuit_lib.proofs.running.say_not_c.Goals as goal
+
+pub returns : goal.returns
+returns g c = rw (c.as_str.ensures.value, c.in-Ok.ensures.ok) at c.say.ensures

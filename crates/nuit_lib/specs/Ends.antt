@@ -1,0 +1,164 @@
+-- How a call ends, and what it leaves.
+use Rattle.std.specs.Prelude.{◌≡◌, ◌≢◌, ℕ, ◌<◌, ◌≤◌, ◌⊎◌, ◌↔◌, List, [], length, Option, Some, None, IfSome}
+use Rattle.nu_base.specs.Outside.{Rose, Faulted, told_file, Adds, AddsFront}
+use Rattle.nuit_lib.specs.declared.status.Status.{Status}
+use Rattle.nuit_lib.specs.declared.status.Status.TheVariants as status
+use Rattle.nu_run.specs.Runs.{printed_by}
+use Rattle.c_meaning.specs.declared.program.CProgram as program
+use Rattle.c_meaning.specs.Printing.{IsText}
+use Rattle.c_meaning.specs.Run.{c_run}
+use Rattle.nuit_lib.specs.declared.words.Verb.{Verb}
+use Rattle.nuit_lib.specs.declared.words.Verb.TheVariants as verb
+use Rattle.nuit_lib.specs.Words.{Command, BuildFile, RunFile, file_of, command_of}
+use Rattle.nuit_lib.specs.Scripts.{Accepted}
+use Rattle.nuit_lib.specs.Replies.{Reply, RunFront, RunPart, BuildReply, RunReply, Says, IsBuilt, read_fault_text, status_of, message_of}
+
+-- an output before and after a call: what it holds, where it tells it, and its count of faults
+pub record Sunk : Type 0 where
+  pub before : Option (List ℕ)
+  pub after : Option (List ℕ)
+  pub faults : ℕ
+  pub faults_after : ℕ
+
+-- all that a call was given and left: the words, the told files, their count of faults before and after, the input that is told,
+-- and both outputs
+pub record Call : Type 0 where
+  pub words : List (List ℕ)
+  pub told : Option (List ℕ → Option (List ℕ))
+  pub faults : ℕ
+  pub faults_after : ℕ
+  pub input : Option (List ℕ)
+  pub out : Sunk
+  pub err : Sunk
+
+-- an output that stays as it was
+pub record Stays (s : Sunk) : Type 0 where
+  pub held : s.after ≡ s.before
+  pub faults : s.faults_after ≡ s.faults
+
+-- an output that got a text
+pub record Got (s : Sunk) (text : List ℕ) : Type 0 where
+  pub held : Adds s.before s.after text
+  pub faults : s.faults_after ≡ s.faults
+
+-- an output that failed, and got a front of a text
+pub record Broke (s : Sunk) (text : List ℕ) : Type 0 where
+  pub held : AddsFront s.before s.after text
+  pub faults : Faulted s.faults s.faults_after
+
+-- what is told of the file of a command: nothing, that there is none, or its bytes
+abbrev pub told_of : Option (List ℕ → Option (List ℕ)) → Option Command → Option (Option (List ℕ))
+told_of told None = None
+told_of told (Some command) = told_file told (file_of command)
+
+-- a reply to a command on the file and the input that are told
+pub record Replied (c : Call) (answer : Status) (out err : List ℕ) : Type 0 where
+  pub file : Option (List ℕ)
+  pub is : IfSome (told_of c.told (command_of c.words)) (λ told. told ≡ file)
+  pub input : List ℕ
+  pub given : IfSome c.input (λ left. left ≡ input)
+  pub reply : Reply (command_of c.words) file input answer out err
+  pub faults : c.faults_after ≡ c.faults
+
+-- a file that can't be read
+pub record Unread (c : Call) (out err : List ℕ) : Type 0 where
+  pub says : Says read_fault_text out err
+  pub faults : Faulted c.faults c.faults_after
+
+-- what a call was to write, with its status
+abbrev pub Due : Call → Status → List ℕ → List ℕ → Type 0
+Due c status.ReadFault = Unread c
+Due c answer = Replied c answer
+
+-- all that was due was written
+pub record Wrote (due : Status → List ℕ → List ℕ → Type 0) (out err : Sunk) (answer : Status) : Type 0 where
+  pub text : List ℕ
+  pub message : List ℕ
+  pub is_due : due answer text message
+  pub got : Got out text
+  pub told : Got err message
+
+-- the output failed, or else the error output did
+pub record Failed (due : Status → List ℕ → List ℕ → Type 0) (out err : Sunk) : Type 0 where
+  pub answer : Status
+  pub text : List ℕ
+  pub message : List ℕ
+  pub is_due : due answer text message
+  pub which : (Broke out text × Stays err) ⊎ (Got out text × Broke err message)
+
+-- memory was wanting: what may be written then was, and no message
+pub record Wanted (part : List ℕ → Type 0) (out err : Sunk) : Type 0 where
+  pub text : List ℕ
+  pub is_part : part text
+  pub got : Got out text
+  pub err_stays : Stays err
+
+-- why a call ends so, and what it leaves, where this is due, and this may be written where memory is wanting
+abbrev pub Writes : (Status → List ℕ → List ℕ → Type 0) → (List ℕ → Type 0) → Sunk → Sunk → Status → Type 0
+Writes due part out err status.WriteFault = Failed due out err
+Writes due part out err status.Memory = Wanted part out err
+Writes due part out err answer = Wrote due out err answer
+
+-- nothing
+abbrev pub Nothing : List ℕ → Type 0
+Nothing text = text ≡ []
+
+-- what running the told file over the told input may have written where memory was wanting
+pub record Partly (c : Call) (steps : ℕ) (text : List ℕ) : Type 0 where
+  pub bytes : List ℕ
+  pub is : IfSome (told_of c.told (command_of c.words)) (λ told. told ≡ Some bytes)
+  pub input : List ℕ
+  pub given : IfSome c.input (λ left. left ≡ input)
+  pub front : RunFront bytes input steps text
+
+-- what a command may have written where memory was wanting
+abbrev pub Part : Call → Option Command → List ℕ → Type 0
+Part c None = Nothing
+Part c (Some (BuildFile file)) = Nothing
+Part c (Some (RunFile file steps)) = λ text. Nothing text ⊎ Partly c steps text
+
+abbrev pub Ends : Call → Status → Type 0
+Ends c = Writes (Due c) (Part c (command_of c.words)) c.out c.err
+
+-- how many bytes a command takes at most
+abbrev pub limit_of : Verb → ℕ
+limit_of verb.Build = 262144
+limit_of (verb.Run steps) = 1073741824
+
+-- how a command ends on a file of this name and these bytes, over this input
+abbrev pub Performs : Verb → List ℕ → List ℕ → List ℕ → Sunk → Sunk → Status → Type 0
+Performs verb.Build name bytes input = Writes (BuildReply name bytes) Nothing
+Performs (verb.Run steps) name bytes input = Writes (RunReply bytes input steps) (RunPart bytes input steps)
+
+-- a message was written, or why it was not is the answer
+abbrev pub Said : Sunk → List ℕ → Status → Status → Type 0
+Said err message wanted answer =
+    ((answer ≡ wanted) × Got err message) ⊎ (((answer ≡ status.WriteFault) × Broke err message) ⊎ ((answer ≡ status.Memory) × Stays err))
+
+abbrev pub sunk : Option (List ℕ) → Option (List ℕ) → ℕ → ℕ → Sunk
+sunk before after faults faults_after = record { before = before; after = after; faults = faults; faults_after = faults_after }
+
+abbrev pub call_of : List (List ℕ) → Option (List ℕ → Option (List ℕ)) → ℕ → ℕ → Option (List ℕ) → Sunk → Sunk → Call
+call_of words told faults faults_after input out err =
+    record { words = words; told = told; faults = faults; faults_after = faults_after; input = input; out = out; err = err }
+
+-- no count of faults rose, and memory was there
+pub record IsQuiet (f f' o o' e e' : ℕ) (answer : Status) : Type 0 where
+  pub files : Rose f f' → ⊥
+  pub out : Rose o o' → ⊥
+  pub err : Rose e e' → ⊥
+  pub memory : answer ≢ status.Memory
+
+-- The clause of `build FILE`, for the bytes of the file, and what the output held before and after.
+pub record Builds (name bytes : List ℕ) (before after : Option (List ℕ)) (answer : Status) : Type 0 where
+  pub too_large : (answer ≡ status.TooLarge) ↔ (262144 < length bytes)
+  pub done : (answer ≡ status.Done) ↔ Accepted bytes
+  pub refused : (answer ≡ status.Refused) ↔ ((length bytes ≤ 262144) × (Accepted bytes → ⊥))
+  pub text : answer ≡ status.Done → (text : List ℕ) × Adds before after text × IsBuilt name bytes text
+
+-- The clause of `run FILE STEPS`, for the bytes of the file and of the input, and what the outputs held before and after.
+pub record Runs (bytes input : List ℕ) (steps : ℕ) (before after err_before err_after : Option (List ℕ)) (answer : Status) : Type 0 where
+  pub too_large : (answer ≡ status.TooLarge) ↔ (1073741824 < length bytes)
+  pub not_c : (answer ≡ status.NotC) ↔ ((length bytes ≤ 1073741824) × ((p : program.CProgram) → IsText bytes p → ⊥))
+  pub ran : (p : program.CProgram) → length bytes ≤ 1073741824 → IsText bytes p
+      → (answer ≡ status_of (c_run p input steps)) × Adds before after (printed_by (c_run p input steps)) × Adds err_before err_after (message_of (c_run p input steps))

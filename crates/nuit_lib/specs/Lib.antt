@@ -1,0 +1,9 @@
+pub mod Codes
+pub mod Words
+pub mod Asked
+pub mod Scripts
+pub mod PyMeaning
+pub mod Printing
+pub mod Reading
+pub mod Replies
+pub mod Ends

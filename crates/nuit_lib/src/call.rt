@@ -1,0 +1,130 @@
+//! The call of the compiler.
+
+ghost use Rattle.std.specs.Prelude.{◌≡◌, ◌↔◌, ℕ, ◌≤◌, List, Option, Some, None, length, map, string_bytes};
+ghost use Rattle.nuit_lib.specs.Words.{BuildFile, Command, RunFile, command_of, file_of};
+ghost use Rattle.nuit_lib.specs.Ends.{Builds, Ends, IsQuiet, Performs, Runs, call_of, limit_of, sunk};
+
+use crate::building::build;
+use crate::running::run;
+use crate::saying::say;
+use crate::status::Status;
+use crate::words::{Verb, command};
+use nu_base::{FetchTrouble, Fetched, Files, Sink, Source};
+use std::alloc::Global;
+
+/// Does what the words say, and answers how it ended.
+///
+/// `words` are the arguments of the program without its name. `build FILE` writes the C text of a script to `out`;
+/// `run FILE` and `run FILE STEPS` run a C text, of which what it prints goes to `out` as it is printed. Every message goes to
+/// `err`.
+pub fn nuit<F: Files, I: Source, O: Sink, E: Sink>(
+    alloc: Global,
+    words: &[String],
+    files: &mut F,
+    input: &mut I,
+    out: &mut O,
+    err: &mut E,
+) -> Status
+    // Why a call ends so, and what it leaves.
+    ensures ends { Ends (call_of (map string_bytes words.now) (F.told files.old) (F.faults files.old) (F.faults files.new) (I.left input.old)
+        (sunk (O.held out.old) (O.held out.new) (O.faults out.old) (O.faults out.new))
+        (sunk (E.held err.old) (E.held err.new) (E.faults err.old) (E.faults err.new))) result }
+
+    // Usage comes exactly where the words have no form.
+    ensures usage { IsQuiet (F.faults files.old) (F.faults files.new) (O.faults out.old) (O.faults out.new) (E.faults err.old) (E.faults err.new) result
+        → (result ≡ Status.Usage) ↔ (command_of (map string_bytes words.now) ≡ None) }
+
+    // Missing comes exactly where told files have none of the name.
+    ensures missing { (command : Command) → (told : List ℕ → Option (List ℕ))
+        → command_of (map string_bytes words.now) ≡ Some command → F.told files.old ≡ Some told
+        → IsQuiet (F.faults files.old) (F.faults files.new) (O.faults out.old) (O.faults out.new) (E.faults err.old) (E.faults err.new) result
+        → (result ≡ Status.Missing) ↔ (told (file_of command) ≡ None) }
+
+    // `build FILE`, for told files, of which one has the name.
+    ensures build { (name bytes : List ℕ) → (told : List ℕ → Option (List ℕ))
+        → command_of (map string_bytes words.now) ≡ Some (BuildFile name) → F.told files.old ≡ Some told → told name ≡ Some bytes
+        → IsQuiet (F.faults files.old) (F.faults files.new) (O.faults out.old) (O.faults out.new) (E.faults err.old) (E.faults err.new) result
+        → Builds name bytes (O.held out.old) (O.held out.new) result }
+
+    // `run FILE` and `run FILE STEPS`, for told files, of which one has the name, and a told input.
+    ensures run { (name bytes left : List ℕ) → (steps : ℕ) → (told : List ℕ → Option (List ℕ))
+        → command_of (map string_bytes words.now) ≡ Some (RunFile name steps) → F.told files.old ≡ Some told → told name ≡ Some bytes
+        → I.left input.old ≡ Some left
+        → IsQuiet (F.faults files.old) (F.faults files.new) (O.faults out.old) (O.faults out.new) (E.faults err.old) (E.faults err.new) result
+        → Runs bytes left steps (O.held out.old) (O.held out.new) (E.held err.old) (E.held err.new) result }
+
+    // The input and the told files stay as they were; nothing asks for input yet.
+    ensures input { I.left input.new ≡ I.left input.old }
+    ensures input_faults { I.faults input.new ≡ I.faults input.old }
+    ensures files { F.told files.new ≡ F.told files.old }
+{
+    answer(alloc, words, files, input, out, err)
+}
+
+// The call, with why it ends so alone.
+fn answer<F: Files, I: Source, O: Sink, E: Sink>(
+    alloc: Global,
+    words: &[String],
+    files: &mut F,
+    input: &mut I,
+    out: &mut O,
+    err: &mut E,
+) -> Status
+    ensures ends { Ends (call_of (map string_bytes words.now) (F.told files.old) (F.faults files.old) (F.faults files.new) (I.left input.old)
+        (sunk (O.held out.old) (O.held out.new) (O.faults out.old) (O.faults out.new))
+        (sunk (E.held err.old) (E.held err.new) (E.faults err.old) (E.faults err.new))) result }
+    ensures input { input.new ≡ input.old }
+    ensures files { F.told files.new ≡ F.told files.old }
+{
+    let Some((verb, name)) = command(words) else {
+        return say(err, USAGE, Status::Usage);
+    };
+    let mut bytes = Vec::new(alloc);
+    match files.fetch(name, longest(verb), &mut bytes) {
+        Ok(Fetched::Whole) => perform(alloc, verb, name, &bytes, input, out, err),
+        Ok(Fetched::Longer) => say(err, TOO_LARGE, Status::TooLarge),
+        Ok(Fetched::Absent) => say(err, MISSING, Status::Missing),
+        Err(FetchTrouble::Failed) => say(err, READ_FAULT, Status::ReadFault),
+        Err(FetchTrouble::Memory) => Status::Memory,
+    }
+}
+
+const USAGE: &str = "nuit: usage: tree FILE, build FILE, run FILE [STEPS], sample N\n";
+
+const TOO_LARGE: &str = "nuit: too large\n";
+
+const MISSING: &str = "nuit: no such file\n";
+
+const READ_FAULT: &str = "nuit: read fault\n";
+
+// How many bytes a command takes at most.
+fn longest(verb: Verb) -> u64
+    ensures { result ≡ limit_of verb }
+{
+    match verb {
+        Verb::Build => 262_144,
+        Verb::Run { .. } => 1_073_741_824,
+    }
+}
+
+// Does what the verb says with a file of this name and these bytes.
+fn perform<I: Source, O: Sink, E: Sink>(
+    alloc: Global,
+    verb: Verb,
+    name: &str,
+    bytes: &[u8],
+    input: &mut I,
+    out: &mut O,
+    err: &mut E,
+) -> Status
+    requires { length bytes.now ≤ limit_of verb }
+    ensures writes { (left : List ℕ) → Performs verb name.now bytes.now left
+        (sunk (O.held out.old) (O.held out.new) (O.faults out.old) (O.faults out.new))
+        (sunk (E.held err.old) (E.held err.new) (E.faults err.old) (E.faults err.new)) result }
+    ensures input { input.new ≡ input.old }
+{
+    match verb {
+        Verb::Build => build(alloc, name, bytes, out, err),
+        Verb::Run { steps } => run(alloc, bytes, steps, input, out, err),
+    }
+}

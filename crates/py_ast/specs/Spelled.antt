@@ -1,0 +1,95 @@
+-- How keywords and signs are spelled.
+use Rattle.std.specs.Prelude.{ℕ, List, [], ◌∷◌, codes}
+use Rattle.py_ast.specs.declared.spelled.Word.{Word}
+use Rattle.py_ast.specs.declared.spelled.Word.TheVariants as w
+use Rattle.py_ast.specs.declared.spelled.Sign.{Sign}
+use Rattle.py_ast.specs.declared.spelled.Sign.TheVariants as s
+
+abbrev pub word_spelled : Word → List ℕ
+word_spelled w.False = codes "False"
+word_spelled w.None = codes "None"
+word_spelled w.True = codes "True"
+word_spelled w.And = codes "and"
+word_spelled w.As = codes "as"
+word_spelled w.Assert = codes "assert"
+word_spelled w.Async = codes "async"
+word_spelled w.Await = codes "await"
+word_spelled w.Break = codes "break"
+word_spelled w.Class = codes "class"
+word_spelled w.Continue = codes "continue"
+word_spelled w.Def = codes "def"
+word_spelled w.Del = codes "del"
+word_spelled w.Elif = codes "elif"
+word_spelled w.Else = codes "else"
+word_spelled w.Except = codes "except"
+word_spelled w.Finally = codes "finally"
+word_spelled w.For = codes "for"
+word_spelled w.From = codes "from"
+word_spelled w.Global = codes "global"
+word_spelled w.If = codes "if"
+word_spelled w.Import = codes "import"
+word_spelled w.In = codes "in"
+word_spelled w.Is = codes "is"
+word_spelled w.Lambda = codes "lambda"
+word_spelled w.Nonlocal = codes "nonlocal"
+word_spelled w.Not = codes "not"
+word_spelled w.Or = codes "or"
+word_spelled w.Pass = codes "pass"
+word_spelled w.Raise = codes "raise"
+word_spelled w.Return = codes "return"
+word_spelled w.Try = codes "try"
+word_spelled w.While = codes "while"
+word_spelled w.With = codes "with"
+word_spelled w.Yield = codes "yield"
+
+abbrev pub sign_spelled : Sign → List ℕ
+sign_spelled s.Plus = codes "+"
+sign_spelled s.Minus = codes "-"
+sign_spelled s.Star = codes "*"
+sign_spelled s.DoubleStar = codes "**"
+sign_spelled s.Slash = codes "/"
+sign_spelled s.DoubleSlash = codes "//"
+sign_spelled s.Percent = codes "%"
+sign_spelled s.At = codes "@"
+sign_spelled s.LeftShift = codes "<<"
+sign_spelled s.RightShift = codes ">>"
+sign_spelled s.Ampersand = codes "&"
+sign_spelled s.Bar = codes "|"
+sign_spelled s.Caret = codes "^"
+sign_spelled s.Tilde = codes "~"
+sign_spelled s.Less = codes "<"
+sign_spelled s.Greater = codes ">"
+sign_spelled s.LessEqual = codes "<="
+sign_spelled s.GreaterEqual = codes ">="
+sign_spelled s.EqualEqual = codes "=="
+sign_spelled s.NotEqual = codes "!="
+sign_spelled s.LeftParen = codes "("
+sign_spelled s.RightParen = codes ")"
+sign_spelled s.LeftBracket = codes "["
+sign_spelled s.RightBracket = codes "]"
+sign_spelled s.LeftBrace = codes "{"
+sign_spelled s.RightBrace = codes "}"
+sign_spelled s.Comma = codes ","
+sign_spelled s.Colon = codes ":"
+sign_spelled s.Dot = codes "."
+sign_spelled s.Semicolon = codes ";"
+sign_spelled s.Equal = codes "="
+sign_spelled s.PlusEqual = codes "+="
+sign_spelled s.MinusEqual = codes "-="
+sign_spelled s.StarEqual = codes "*="
+sign_spelled s.DoubleSlashEqual = codes "//="
+sign_spelled s.PercentEqual = codes "%="
+sign_spelled s.DoubleStarEqual = codes "**="
+sign_spelled s.LeftShiftEqual = codes "<<="
+sign_spelled s.RightShiftEqual = codes ">>="
+sign_spelled s.AmpersandEqual = codes "&="
+sign_spelled s.BarEqual = codes "|="
+sign_spelled s.CaretEqual = codes "^="
+
+-- all keywords
+abbrev pub words : List Word
+words = w.False ∷ w.None ∷ w.True ∷ w.And ∷ w.As ∷ w.Assert ∷ w.Async ∷ w.Await ∷ w.Break ∷ w.Class ∷ w.Continue ∷ w.Def ∷ w.Del ∷ w.Elif ∷ w.Else ∷ w.Except ∷ w.Finally ∷ w.For ∷ w.From ∷ w.Global ∷ w.If ∷ w.Import ∷ w.In ∷ w.Is ∷ w.Lambda ∷ w.Nonlocal ∷ w.Not ∷ w.Or ∷ w.Pass ∷ w.Raise ∷ w.Return ∷ w.Try ∷ w.While ∷ w.With ∷ w.Yield ∷ []
+
+-- all signs, longer ones first
+abbrev pub signs : List Sign
+signs = s.DoubleSlashEqual ∷ s.DoubleStarEqual ∷ s.LeftShiftEqual ∷ s.RightShiftEqual ∷ s.DoubleStar ∷ s.DoubleSlash ∷ s.LeftShift ∷ s.RightShift ∷ s.LessEqual ∷ s.GreaterEqual ∷ s.EqualEqual ∷ s.NotEqual ∷ s.PlusEqual ∷ s.MinusEqual ∷ s.StarEqual ∷ s.PercentEqual ∷ s.AmpersandEqual ∷ s.BarEqual ∷ s.CaretEqual ∷ s.Plus ∷ s.Minus ∷ s.Star ∷ s.Slash ∷ s.Percent ∷ s.At ∷ s.Ampersand ∷ s.Bar ∷ s.Caret ∷ s.Tilde ∷ s.Less ∷ s.Greater ∷ s.LeftParen ∷ s.RightParen ∷ s.LeftBracket ∷ s.RightBracket ∷ s.LeftBrace ∷ s.RightBrace ∷ s.Comma ∷ s.Colon ∷ s.Dot ∷ s.Semicolon ∷ s.Equal ∷ []

@@ -1,0 +1,14 @@
+pub mod Roles
+pub mod Steps
+pub mod Starts
+pub mod Lists
+pub mod OperationsRead
+pub mod PartsRead
+pub mod BracketsRead
+pub mod Complete
+pub mod Apart
+pub mod PartsSpelled
+pub mod BracketsSpelled
+pub mod Sound
+pub mod Places
+pub mod Productions

@@ -1,0 +1,10 @@
+pub mod Cells
+pub mod Digits
+pub mod Bodies
+pub mod Law
+pub mod Cutting
+pub mod Positions
+pub mod Passing
+pub mod Longest
+pub mod Answers
+pub mod Standing

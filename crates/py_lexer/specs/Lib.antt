@@ -1,0 +1,14 @@
+pub mod Characters
+pub mod PhysicalLines
+pub mod Words
+pub mod Strings
+pub mod Numerals
+pub mod Signs
+pub mod Pieces
+pub mod Brackets
+pub mod Indentation
+pub mod LogicalLines
+pub mod Script
+pub mod Laws
+pub mod Machine
+pub mod Seen

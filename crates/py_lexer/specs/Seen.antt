@@ -1,0 +1,115 @@
+-- What the code's values stand for, and when its answers are right.
+use Rattle.std.specs.Prelude.{◌≡◌, ◌≤◌, ℕ, [], ◌∷◌, ◌++◌, Bool, true, false, List, map, reverse, Option, Some, None, Result, Ok, Err, encode_utf8_all, string_bytes}
+use Rattle.py_ast.specs.declared.token.Token.{Token}
+use Rattle.py_lexer.specs.declared.refusals.LexEnd.{LexEnd}
+use Rattle.py_lexer.specs.declared.refusals.LexEnd.TheVariants as end
+use Rattle.py_lexer.specs.declared.strings.Stands.{Stands}
+use Rattle.py_lexer.specs.declared.strings.Stands.TheVariants as stands
+use Rattle.py_lexer.specs.declared.strings.Read.{Read}
+use Rattle.py_lexer.specs.declared.brackets.Bracket.{Bracket}
+use Rattle.py_lexer.specs.declared.pieces.Piece.{Piece}
+use Rattle.py_lexer.specs.declared.pieces.Piece.TheVariants as code
+use Rattle.py_lexer.specs.declared.refusals.Stop.{Stop}
+use Rattle.py_lexer.specs.declared.refusals.Stop.TheVariants as stop
+use Rattle.py_lexer.specs.declared.layout.Layout.{Layout}
+use Rattle.py_lexer.specs.declared.levels.Start as levels
+use Rattle.py_lexer.specs.Strings.{Escape, Part}
+use Rattle.py_lexer.specs.Pieces as spec
+use Rattle.py_lexer.specs.Indentation.{Start, enter}
+use Rattle.py_lexer.specs.LogicalLines.{◌>>=◌}
+use Rattle.py_lexer.specs.Machine.{State}
+
+-- ---- strings
+
+abbrev pub characters : Stands → List ℕ
+characters stands.Nothing = []
+characters (stands.One c) = c ∷ []
+characters (stands.Kept c) = 92 ∷ c ∷ []
+
+-- an escape that is refused stands for none
+abbrev pub characters_or_none : Option Stands → List ℕ
+characters_or_none None = []
+characters_or_none (Some s) = characters s
+
+abbrev pub refused_by : Option Stands → Option ℕ
+refused_by None = Some 0
+refused_by (Some s) = None
+
+abbrev pub escape : Option (Stands × ℕ) → Option Escape
+escape None = None
+escape (Some e) = Some (characters e.0, e.1)
+
+abbrev pub item : Option (Option Stands × ℕ) → Option Part
+item None = None
+item (Some i) = Some (record { text = characters_or_none i.0; refused = refused_by i.0; length = i.1 })
+
+-- a part with its text in UTF-8
+abbrev pub encoded : Option Part → Option Part
+encoded None = None
+encoded (Some p) = Some (record p { text = encode_utf8_all p.text })
+
+abbrev pub read : Option Read → Option Part
+read None = None
+read (Some r) = Some (record { text = string_bytes r.text; refused = r.refused; length = r.length })
+
+-- ---- pieces
+
+abbrev pub piece : Piece → spec.Piece
+piece (code.Blank text) = spec.Blank text.now
+piece code.Comment = spec.Comment
+piece code.LineEnd = spec.LineEnd
+piece code.Joint = spec.Joint
+piece (code.Token k) = spec.Token k
+
+-- What a function returned is what is found, unless memory ran out.
+abbrev pub Stops : Stop → spec.Found → Type 0
+Stops (stop.Fault f below) found = found ≡ (spec.Bad f below, 1)
+Stops stop.Memory found = Unit {0}
+
+-- what is wrong shows within the text
+abbrev pub IsNear : Stop → Type 0
+IsNear (stop.Fault f below) = below ≤ 262144
+IsNear stop.Memory = Unit {0}
+
+abbrev pub Finds : Result (Piece × ℕ) Stop → spec.Found → Type 0
+Finds (Ok x) found = found ≡ (piece x.0, x.1)
+Finds (Err e) found = Stops e found
+
+-- ---- lines
+
+abbrev pub start : Option levels.Start → Option Start
+start None = None
+start (Some s) = Some (record { line = s.line; blank = s.blank.now })
+
+abbrev pub state : Layout → State
+state l = record {
+  tokens = l.tokens.items;
+  last = l.last;
+  levels = map (λ level. level.now) l.levels.items;
+  open_ = reverse l.brackets.items;
+  fresh = l.fresh;
+  start = start l.start;
+}
+
+-- an error is the refusal that is given, unless memory ran out
+abbrev pub Refused : {A : Type 0} → LexEnd → Result A LexEnd → Type 0
+Refused end.Memory given = Unit {0}
+Refused end.Utf8 given = ⊥
+Refused e given = given ≡ Err e
+
+-- what a call left or returned is what is given
+abbrev pub Leaves : {X A : Type 0} → A → Result X LexEnd → Result A LexEnd → Type 0
+Leaves new (Ok x) given = given ≡ Ok new
+Leaves new (Err e) given = Refused e given
+
+abbrev pub Gives : {V A : Type 0} → (V → A) → Result V LexEnd → Result A LexEnd → Type 0
+Gives seen (Ok v) given = given ≡ Ok (seen v)
+Gives seen (Err e) given = Refused e given
+
+-- the levels and the tokens that a line's indentation leaves
+abbrev pub lay : List (List ℕ) → List Token → Start → ℕ → Result (List (List ℕ) × List Token) LexEnd
+lay levels tokens start first = enter levels start first >>= λ e. Ok (e.levels, tokens ++ e.tokens)
+
+abbrev pub Turns : Bool → Option (List Bracket) → List Bracket → Type 0
+Turns true given new = given ≡ Some new
+Turns false given new = given ≡ None

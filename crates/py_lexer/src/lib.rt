@@ -1,0 +1,33 @@
+//! Tokens of a script, by the lexical analysis of the Python reference (chapter 2).
+//!
+//! [`lex`] cuts a text into pieces, each the longest of its class at its place, and lays the pieces
+//! out in logical lines, with a stack of indentations and one of brackets.
+//!
+//! Numbers are integers below 2^127, strings have the prefixes `r` and `R` alone, and an escape that
+//! the reference doesn't list, or one by name, is refused. So is an indentation that mixes blanks in
+//! another way than the levels before it, since indentations are compared as strings.
+//!
+//! The definition that `lex` meets stands in `specs/`, a file for each part of the chapter: `Pieces`
+//! says what stands at a place, `LogicalLines` and `Indentation` what becomes of the pieces, and
+//! `Script` what the tokens of a text are. `Machine` and `Seen` say how the code goes about it; no
+//! public contract rests on them.
+#![tactic(auto)]
+
+mod brackets;
+mod laws;
+mod layout;
+mod levels;
+mod numerals;
+mod pieces;
+mod refusals;
+mod runs;
+mod script;
+mod signs;
+mod strings;
+#[cfg(test)]
+mod tests;
+mod words;
+
+pub use laws::{every_character_stands, longest_piece, one_answer};
+pub use refusals::LexEnd;
+pub use script::lex;

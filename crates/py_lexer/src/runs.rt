@@ -1,0 +1,90 @@
+//! Runs of characters at the front of a text, and line ends.
+
+ghost use Rattle.std.specs.Prelude.{◌≡◌, ◌≤◌, length, IsTrue};
+ghost use Rattle.std.specs.Str.{bytes_eq};
+ghost use Rattle.py_lexer.specs.Characters as spec;
+ghost use Rattle.py_lexer.specs.PhysicalLines as lines;
+
+/// What a run consists of.
+#[derive(Clone, Copy)]
+pub enum Class {
+    Blank,
+    Comment,
+    Word,
+    Numeral,
+    Octal,
+}
+
+fn belongs(class: Class, c: char) -> bool
+    ensures { result ≡ spec.belongs class c }
+{
+    match class {
+        Class::Blank => c == ' ' || c == '\t',
+        Class::Comment => !(c == '\n' || c == '\r'),
+        Class::Word => unicode_ident::is_xid_continue(c),
+        Class::Numeral => c.is_ascii_alphanumeric() || c == '_' || c == '.',
+        Class::Octal => c.is_digit(8),
+    }
+}
+
+/// How many characters at the front are of the class.
+pub fn run(class: Class, text: &[char]) -> usize
+    ensures value { result ≡ spec.run_length class text.now }
+    ensures within { result ≤ length text.now }
+{
+    text.iter().take_while(|c| belongs(class, **c)).count()
+}
+
+/// Whether the text is spelled so.
+pub fn is_spelled(text: &[char], spelling: &[u8]) -> bool
+    ensures { result ≡ bytes_eq text.now spelling.now }
+{
+    if text.len() != spelling.len() {
+        return false;
+    }
+    for (i, c) in text.iter().enumerate() {
+        if *c != char::from(spelling[i]) {
+            return false;
+        }
+    }
+    true
+}
+
+/// Whether the text begins so.
+pub fn begins(text: &[char], spelling: &[u8]) -> bool
+    ensures value { result ≡ spec.begins text.now spelling.now }
+    ensures within { IsTrue result → length spelling.now ≤ length text.now }
+{
+    spelling.len() <= text.len() && is_spelled(&text[..spelling.len()], spelling)
+}
+
+/// The length of the line end at the front, or 0.
+#[tactic(auto, unfolding(crate::specs::PhysicalLines::line_end))]
+pub fn line_end(text: &[char]) -> usize
+    ensures value { result ≡ lines.line_end text.now }
+    ensures within { result ≤ length text.now }
+{
+    match text {
+        ['\n', ..] => 1,
+        ['\r', '\n', ..] => 2,
+        ['\r', ..] => 1,
+        _ => 0,
+    }
+}
+
+/// How many line ends the text has.
+pub fn line_ends(text: &[char]) -> u32
+    requires { length text.now ≤ 262144 }
+    ensures value { result ≡ lines.line_ends text.now }
+    ensures within { result ≤ length text.now }
+{
+    let mut count = 0;
+    let mut rest = text;
+    'scan: while let [c, after @ ..] = rest {
+        if *c == '\n' || (*c == '\r' && !matches!(after, ['\n', ..])) {
+            count += 1;
+        }
+        rest = after;
+    }
+    count
+}
