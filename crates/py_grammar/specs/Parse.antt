@@ -587,6 +587,15 @@ read_target d i = and_then (item (parse (length i + 1)) (length i + 1) row.Targe
 unfoldable pub read_yield : ℕ → Parser (Found Expr)
 read_yield d i = if sees_word w.Yield i then yields (parse (length i + 1)) (length i + 1) d i else None
 
+-- whether an item is an expression by itself, with neither a star before it nor a comma behind
+abbrev pub is_alone : Item Expr → List Token → Bool
+is_alone (it.One x) i = not (sees s.Comma i)
+is_alone (it.Star x) i = false
+
+-- a list of expressions, and whether it is an expression by itself
+unfoldable pub read_row : ℕ → Parser (Found Expr × Bool)
+read_row d i = and_then (item (parse (length i + 1)) (length i + 1) row.Expressions d i) (λ x j. and_then (row_behind (parse (length i + 1)) (length i + 1) (line i) (line i) row.Expressions d x j) (λ all. pure (all, is_alone x.tree j)))
+
 -- [ params ]
 unfoldable pub read_params : ℕ → Parser (Found (List (Param Expr)))
 read_params d i = params (parse (length i + 1)) (length i + 1) d i

@@ -1,5 +1,5 @@
-pub mod Cells
 pub mod Digits
+pub mod LineEnds
 pub mod Bodies
 pub mod Law
 pub mod Cutting

@@ -1,6 +1,6 @@
 //! Pieces laid out in logical lines.
 
-ghost use Rattle.std.specs.Prelude.{◌≡◌, reverse, Ok};
+ghost use Rattle.std.specs.Prelude.{◌≡◌, reverse, Ok, IfErr};
 
 use crate::brackets::{Bracket, turn};
 use crate::levels::{Start, dedent, enter};
@@ -44,8 +44,10 @@ impl<'a> Layout<'a> {
     }
 
     /// A token on the line comes next: the first of a logical line compares its indentation.
+    /// Where its indentation is refused, it is still to come.
     pub fn begin(&mut self, line: u32) -> Result<(), LexEnd>
-        ensures { Leaves (state self.new) result (machine.entered line (state self.old)) }
+        ensures value { Leaves (state self.new) result (machine.entered line (state self.old)) }
+        ensures fresh { IfErr result (λ _. self.new.fresh ≡ self.old.fresh) }
     {
         if !self.fresh {
             return Ok(());

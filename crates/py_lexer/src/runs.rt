@@ -1,9 +1,11 @@
 //! Runs of characters at the front of a text, and line ends.
 
-ghost use Rattle.std.specs.Prelude.{◌≡◌, ◌≤◌, length, IsTrue};
+ghost use Rattle.std.specs.Prelude.{◌≡◌, ◌≤◌, ◌∷◌, true, length, take, IfOk, IsTrue, MatchOption};
 ghost use Rattle.std.specs.Str.{bytes_eq};
 ghost use Rattle.py_lexer.specs.Characters as spec;
 ghost use Rattle.py_lexer.specs.PhysicalLines as lines;
+
+use std::alloc::{AllocError, Global};
 
 /// What a run consists of.
 #[derive(Clone, Copy)]
@@ -33,6 +35,29 @@ pub fn run(class: Class, text: &[char]) -> usize
     ensures within { result ≤ length text.now }
 {
     text.iter().take_while(|c| belongs(class, **c)).count()
+}
+
+/// The characters at the front that are of the class.
+pub fn gather(alloc: Global, class: Class, text: &[char]) -> Result<Vec<char>, AllocError>
+    ensures value { IfOk result (λ v. v.items ≡ take (spec.run_length class text.now) text.now) }
+    ensures within { IfOk result (λ v. length v.items ≤ length text.now) }
+{
+    text.iter()
+        .copied()
+        .take_while(|c| belongs(class, *c))
+        .collect(alloc)
+}
+
+/// The character at the front, if it is of the class, and what comes behind it.
+pub fn split_first_of(class: Class, text: &[char]) -> Option<(char, &[char])>
+    ensures { MatchOption result (spec.run_length class text.now ≡ 0) (λ r. (text.now ≡ r.0 ∷ r.1.now) × (spec.belongs class r.0 ≡ true)) }
+{
+    let (c, rest) = text.split_first()?;
+    if belongs(class, *c) {
+        Some((*c, rest))
+    } else {
+        None
+    }
 }
 
 /// Whether the text is spelled so.
@@ -70,21 +95,4 @@ pub fn line_end(text: &[char]) -> usize
         ['\r', ..] => 1,
         _ => 0,
     }
-}
-
-/// How many line ends the text has.
-pub fn line_ends(text: &[char]) -> u32
-    requires { length text.now ≤ 262144 }
-    ensures value { result ≡ lines.line_ends text.now }
-    ensures within { result ≤ length text.now }
-{
-    let mut count = 0;
-    let mut rest = text;
-    'scan: while let [c, after @ ..] = rest {
-        if *c == '\n' || (*c == '\r' && !matches!(after, ['\n', ..])) {
-            count += 1;
-        }
-        rest = after;
-    }
-    count
 }

@@ -8,12 +8,12 @@ ghost use Rattle.py_lexer.specs.Script.{Tokens, Refuses};
 ghost use Rattle.py_lexer.specs.Seen.{Gives};
 
 use crate::layout::Layout;
-use crate::pieces::piece_at;
+use crate::pieces::{Found, piece_at};
 use crate::refusals::{LexEnd, Stop};
-use crate::runs::line_ends;
 use py_ast::Token;
 use std::alloc::{AllocError, Global};
 
+/// The characters of the text. Beside the reading of the pieces this is all that goes over them.
 fn chars_of(alloc: Global, text: &str) -> Result<Vec<char>, AllocError>
     ensures value { IfOk result (λ v. v.items ≡ chars text.now) }
     ensures within { IfOk result (λ v. length v.items ≤ length text.now) }
@@ -40,10 +40,15 @@ fn tokens_of(alloc: Global, text: &[char]) -> Result<Vec<Token>, LexEnd>
     let mut rest = text;
     'cut: while !rest.is_empty() {
         match piece_at(alloc, rest) {
-            Ok((piece, n)) => {
-                let (front, after) = rest.split_at(n);
+            Ok(found) => {
+                let Found {
+                    piece,
+                    length,
+                    lines,
+                } = found;
+                let (_, after) = rest.split_at(length);
                 layout.accept(line, piece)?;
-                line += line_ends(front);
+                line += lines;
                 rest = after;
             }
             Err(Stop::Fault { fault, below }) => {

@@ -2,6 +2,7 @@
 
 ghost use Rattle.std.specs.Prelude.{◌≡◌, ◌<◌, ◌≤◌, ◌+◌, ◌++◌, length, OnOk, IfOk, IfSome, IsTrue, encode_utf8_all, string_bytes, slice_index};
 ghost use Rattle.py_lexer.specs.Characters.{begins};
+ghost use Rattle.py_lexer.specs.PhysicalLines as physical;
 ghost use Rattle.py_lexer.specs.Strings as spec;
 ghost use Rattle.py_lexer.specs.Seen as seen;
 
@@ -17,6 +18,16 @@ pub enum Stands {
     Kept(char),
 }
 
+/// A part of a literal that doesn't close it.
+#[derive(Clone, Copy)]
+pub struct Taken {
+    /// What it stands for, unless it is an escape that is refused.
+    pub stands: Option<Stands>,
+    pub length: usize,
+    /// How many line ends it has.
+    pub lines: u32,
+}
+
 /// How a literal is written.
 #[derive(Clone, Copy)]
 pub struct Literal {
@@ -30,9 +41,11 @@ pub struct Literal {
 pub struct Read {
     /// What it stands for, without the escapes that are refused.
     pub text: String,
-    /// How far on the first refused escape is.
-    pub refused: Option<usize>,
+    /// How many lines below its start the first refused escape is.
+    pub refused: Option<u32>,
     pub length: usize,
+    /// How many line ends it has.
+    pub lines: u32,
 }
 
 #[tactic(auto, unfolding(crate::specs::Strings::simple_escape))]
@@ -107,19 +120,16 @@ fn octal(text: &[char]) -> Option<(Stands, usize)>
     Some((Stands::One(c), n + 1))
 }
 
-/// An escape, from behind its backslash, and its length.
+/// An escape other than of a line end, from behind its backslash, and its length.
 #[tactic(auto, unfolding(crate::specs::Strings::escape))]
 fn escape(text: &[char]) -> Option<(Stands, usize)>
+    requires { physical.line_end text.now ≡ 0 }
     ensures value { seen.escape result ≡ spec.escape text.now }
     ensures within { IfSome result (λ i. (0 < i.1) × (i.1 ≤ length text.now + 1)) }
 {
     let [c, rest @ ..] = text else {
         return None;
     };
-    let end = line_end(text);
-    if end > 0 {
-        return Some((Stands::Nothing, end + 1));
-    }
     if let Some(stands) = simple_escape(*c) {
         return Some((Stands::One(stands), 2));
     }
@@ -132,48 +142,51 @@ fn escape(text: &[char]) -> Option<(Stands, usize)>
     }
 }
 
-/// A backslash and the next character both stand.
-#[tactic(auto, unfolding(crate::specs::Strings::raw_escape))]
-fn raw_escape(text: &[char]) -> Option<(Stands, usize)>
-    ensures value { seen.escape result ≡ spec.raw_escape text.now }
-    ensures within { IfSome result (λ i. (0 < i.1) × (i.1 ≤ length text.now + 1)) }
+/// What stands behind a backslash, which is never a literal's last character.
+#[tactic(auto, unfolding(crate::specs::Strings::escape, crate::specs::Strings::raw_escape))]
+fn at_backslash(literal: Literal, text: &[char]) -> Option<Taken>
+    ensures value { seen.item result ≡ spec.at_backslash literal text.now }
+    ensures within { IfSome result (λ i. (0 < i.length) × (i.length ≤ length text.now + 1)) }
+    ensures lines { IfSome result (λ i. i.lines ≡ seen.lines_at text.now) }
 {
     let [c, ..] = text else {
         return None;
     };
     let end = line_end(text);
     if end > 0 {
-        return Some((Stands::Kept('\n'), end + 1));
-    }
-    Some((Stands::Kept(*c), 2))
-}
-
-/// What stands behind a backslash, which is never a literal's last character, and its length with
-/// the backslash. An escape that is refused stands for none.
-fn at_backslash(literal: Literal, text: &[char]) -> Option<(Option<Stands>, usize)>
-    ensures value { seen.item result ≡ spec.at_backslash literal text.now }
-    ensures within { IfSome result (λ i. (0 < i.1) × (i.1 ≤ length text.now + 1)) }
-{
-    if text.is_empty() {
-        return None;
+        let stands = if literal.raw {
+            Stands::Kept('\n')
+        } else {
+            Stands::Nothing
+        };
+        return Some(Taken {
+            stands: Some(stands),
+            length: end + 1,
+            lines: 1,
+        });
     }
     let read = if literal.raw {
-        raw_escape(text)
+        Some((Stands::Kept(*c), 2))
     } else {
         escape(text)
     };
-    match read {
-        Some((stands, n)) => Some((Some(stands), n)),
-        None => Some((None, 2)),
-    }
+    let (stands, length) = match read {
+        Some((stands, n)) => (Some(stands), n),
+        None => (None, 2),
+    };
+    Some(Taken {
+        stands,
+        length,
+        lines: 0,
+    })
 }
 
-/// What stands at a place that doesn't close the literal, and its length, if the literal goes on
-/// there.
+/// What stands at a place that doesn't close the literal, if the literal goes on there.
 #[tactic(auto, unfolding(crate::specs::Strings::item))]
-fn item(literal: Literal, text: &[char]) -> Option<(Option<Stands>, usize)>
+fn item(literal: Literal, text: &[char]) -> Option<Taken>
     ensures value { seen.item result ≡ spec.item literal text.now }
-    ensures within { IfSome result (λ i. (0 < i.1) × (i.1 ≤ length text.now)) }
+    ensures within { IfSome result (λ i. (0 < i.length) × (i.length ≤ length text.now)) }
+    ensures lines { IfSome result (λ i. i.lines ≡ seen.lines_in text.now) }
 {
     let [c, rest @ ..] = text else {
         return None;
@@ -183,16 +196,33 @@ fn item(literal: Literal, text: &[char]) -> Option<(Option<Stands>, usize)>
         if !literal.triple {
             return None;
         }
-        return Some((Some(Stands::One('\n')), end));
+        return Some(Taken {
+            stands: Some(Stands::One('\n')),
+            length: end,
+            lines: 1,
+        });
     }
     if *c != '\\' {
-        return Some((Some(Stands::One(*c)), 1));
+        return Some(Taken {
+            stands: Some(Stands::One(*c)),
+            length: 1,
+            lines: 0,
+        });
     }
     at_backslash(literal, rest)
 }
 
-fn closes(literal: Literal, text: &[char]) -> bool
-    ensures { result ≡ begins text.now (spec.closing literal) }
+/// How many quotes open the literal, and as many close it.
+fn quotes(literal: Literal) -> usize
+    ensures { result ≡ length (spec.closing literal) }
+{
+    if literal.triple { 3 } else { 1 }
+}
+
+/// Whether the literal's quotes stand at the front.
+fn at_quotes(literal: Literal, text: &[char]) -> bool
+    ensures value { result ≡ begins text.now (spec.closing literal) }
+    ensures within { IsTrue result → length (spec.closing literal) ≤ length text.now }
 {
     let q = literal.quote;
     if literal.triple {
@@ -215,41 +245,46 @@ fn push(out: &mut String, stands: Option<Stands>) -> Result<(), AllocError>
     }
 }
 
-/// Where the first refused escape is, before an item at this place or with it.
-fn first_refused(before: Option<usize>, at: usize, stands: Option<Stands>) -> Option<usize>
-    ensures { result ≡ spec.earlier before at (seen.refused_by stands) }
+/// The line of the first refused escape, before an item on this line or with it.
+fn first_refused(before: Option<u32>, line: u32, stands: Option<Stands>) -> Option<u32>
+    ensures { result ≡ spec.earlier before line (seen.refused_by stands) }
 {
     match (before, stands) {
-        (None, None) => Some(at),
+        (None, None) => Some(line),
         _ => before,
     }
 }
 
 /// A body with its closing quotes, if it is closed.
 fn body(alloc: Global, literal: Literal, text: &[char]) -> Result<Option<Read>, AllocError>
-    ensures value { IfOk result (λ found. seen.read found ≡ seen.encoded (spec.body literal 0 text.now)) }
+    requires quote { IsTrue (spec.is_quote literal.quote) }
+    requires short { length text.now ≤ 262144 }
+    ensures value { IfOk result (λ found. seen.read found ≡ seen.counted (seen.encoded (spec.body literal 0 text.now)) text.now) }
     ensures within { IfOk result (λ found. IfSome found (λ r. r.length ≤ length text.now)) }
-    ensures near { IfOk result (λ found. IfSome found (λ r. IfSome r.refused (λ k. k ≤ length text.now))) }
+    ensures near { IfOk result (λ found. IfSome found (λ r. IfSome r.refused (λ n. n ≤ length text.now))) }
 {
-    let closing = if literal.triple { 3 } else { 1 };
+    let quotes = quotes(literal);
     let mut out = String::new(alloc);
     let mut refused = None;
     let mut at = 0;
+    let mut lines = 0;
     while at < text.len() {
         let (_, rest) = text.split_at(at);
-        if closes(literal, rest) {
+        if at_quotes(literal, rest) {
             return Ok(Some(Read {
                 text: out,
                 refused,
-                length: at + closing,
+                length: at + quotes,
+                lines,
             }));
         }
-        let Some((stands, n)) = item(literal, rest) else {
+        let Some(item) = item(literal, rest) else {
             return Ok(None);
         };
-        push(&mut out, stands)?;
-        refused = first_refused(refused, at, stands);
-        at += n;
+        push(&mut out, item.stands)?;
+        refused = first_refused(refused, lines, item.stands);
+        at += item.length;
+        lines += item.lines;
     }
     Ok(None)
 }
@@ -257,29 +292,38 @@ fn body(alloc: Global, literal: Literal, text: &[char]) -> Result<Option<Read>, 
 /// The literal that starts at a quote, if it is closed.
 #[tactic(auto, unfolding(crate::specs::Strings::literal))]
 pub fn read_literal(alloc: Global, raw: bool, text: &[char]) -> Result<Option<Read>, AllocError>
-    requires { 0 < length text.now }
-    ensures value { IfOk result (λ found. seen.read found ≡ seen.encoded (spec.literal raw text.now)) }
+    requires there { 0 < length text.now }
+    requires quote { IsTrue (spec.is_quote (slice_index text.now 0)) }
+    requires short { length text.now ≤ 262144 }
+    ensures value { IfOk result (λ found. seen.read found ≡ seen.counted (seen.encoded (spec.literal raw text.now)) text.now) }
     ensures within { IfOk result (λ found. IfSome found (λ r. (0 < r.length) × (r.length ≤ length text.now))) }
-    ensures near { IfOk result (λ found. IfSome found (λ r. IfSome r.refused (λ k. k ≤ length text.now))) }
+    ensures near { IfOk result (λ found. IfSome found (λ r. IfSome r.refused (λ n. n ≤ length text.now))) }
 {
     let quote = text[0];
-    let triple = matches!(text, [_, b, c, ..] if *b == quote && *c == quote);
+    let triple = at_quotes(
+        Literal {
+            quote,
+            triple: true,
+            raw,
+        },
+        text,
+    );
     let literal = Literal { quote, triple, raw };
-    let opening = if triple { 3 } else { 1 };
-    match body(alloc, literal, &text[opening..])? {
+    let quotes = quotes(literal);
+    let (_, inner) = text.split_at(quotes);
+    match body(alloc, literal, inner)? {
         Some(
             Read {
                 text,
                 refused,
                 length,
+                lines,
             },
         ) => Ok(Some(Read {
             text,
-            refused: match refused {
-                Some(at) => Some(opening + at),
-                None => None,
-            },
-            length: opening + length,
+            refused,
+            length: quotes + length,
+            lines,
         })),
         None => Ok(None),
     }
@@ -297,6 +341,7 @@ pub fn is_raw(word: &[char], rest: &[char]) -> bool
     ensures value { result ≡ spec.is_raw word.now rest.now }
     ensures front { IsTrue result → length word.now ≡ 1 }
     ensures there { IsTrue result → 0 < length rest.now }
+    ensures quote { IsTrue result → IsTrue (spec.is_quote (slice_index rest.now 0)) }
 {
     matches!(word, ['r' | 'R']) && is_quote(rest)
 }

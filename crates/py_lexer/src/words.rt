@@ -1,11 +1,13 @@
 //! Identifiers and keywords (reference, section 2.3).
 
-ghost use Rattle.std.specs.Prelude.{◌≡◌, ◌==◌, ◌||◌, IsTrue, IfOk};
+ghost use Rattle.std.specs.Prelude.{◌≡◌, ◌≤◌, ◌==◌, ◌||◌, length, take, IsTrue, IfOk};
 ghost use Rattle.unicode_ident.specs.Ident.{is_xid_continue};
 ghost use Rattle.py_ast.specs.Spelled.{words};
+ghost use Rattle.py_lexer.specs.declared.runs.Class.TheVariants as class;
+ghost use Rattle.py_lexer.specs.Characters.{run_length};
 ghost use Rattle.py_lexer.specs.Words as spec;
 
-use crate::runs::is_spelled;
+use crate::runs::{Class, gather, is_spelled};
 use nu_text::RcStr;
 use py_ast::{TokenKind, WORDS, Word};
 use std::alloc::{AllocError, Global};
@@ -16,6 +18,16 @@ pub fn begins_word(c: char) -> bool
     ensures goes_on { IsTrue result → IsTrue (is_xid_continue c) }
 {
     unicode_ident::is_xid_start(c) || c == '_'
+}
+
+/// The characters of the word at the front, of which keywords and normal forms are then told.
+pub fn take_word(alloc: Global, text: &[char]) -> Result<Vec<char>, AllocError>
+    ensures value { IfOk result (λ word. word.items ≡ take (run_length class.Word text.now) text.now) }
+    ensures size { IfOk result (λ word. length word.items ≡ run_length class.Word text.now) }
+    ensures within { IfOk result (λ word. length word.items ≤ length text.now) }
+{
+    let word = gather(alloc, Class::Word, text)?;
+    Ok(word)
 }
 
 /// The keyword of the table that the word is.

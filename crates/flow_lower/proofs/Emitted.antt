@@ -1,0 +1,110 @@
+-- What `lower_node` appends are the lines of its node.
+use Rattle.std.proofs.Common.{◌≡◌, ℕ, zero, suc, ◌+◌, ◌≤◌, List, [], ◌∷◌, ◌++◌, length, get_or, refl, sym, ap, ◌∙◌, arith, append_assoc}
+use mathlib.Core.Former.{Count}
+use Rattle.node_tree.specs.declared.node.Node.{Node, If, Loop, Loop', Catch, Row_of-Node, end_of-Node, more_of-Node, items-the_row-Node, items_hidden-the_row-Node-0}
+use Rattle.node_tree.specs.declared.node.Operand.{Operand}
+use Rattle.node_tree.specs.Blocks as tree
+use Rattle.node_tree.specs.Tree.{form, row_block, block}
+use Rattle.flow_code.specs.declared.statement.Line.{Line}
+use Rattle.flow_code.specs.declared.statement.Line.TheVariants.{Label, Do}
+use Rattle.flow_code.specs.declared.statement.Statement.TheVariants as flat
+use Rattle.flow_lower.specs.Lower.{operand_of, form_labels, labels, exit, exit_of, form_lines, block_lines}
+
+exit_at : (xs : List ℕ) (k : ℕ) → get_or xs k 0 ≡ exit xs k
+exit_at [] k = refl
+exit_at (x ∷ xs) zero = refl
+exit_at (x ∷ xs) (suc k) = exit_at xs k
+
+exit_past : (xs : List ℕ) (k : ℕ) → length xs ≤ k → 0 ≡ exit xs k
+exit_past [] k le = refl
+exit_past (x ∷ xs) zero le = absurd (omega arith)
+exit_past (x ∷ xs) (suc k) le = exit_past xs k (omega arith)
+
+-- the label behind the loop that one more level than k leaves
+pub exit_is : (xs : List ℕ) (l k : ℕ) → l ≡ suc k → get_or xs k 0 ≡ exit_of xs l
+exit_is xs l k e = exit_at xs k ∙ ap (exit_of xs) (sym e)
+
+pub exit_none : (xs : List ℕ) (l k : ℕ) → l ≡ suc k → length xs ≤ k → 0 ≡ exit_of xs l
+exit_none xs l k e le = exit_past xs k le ∙ ap (exit_of xs) (sym e)
+
+row_is : (m : _) (row : Row_of-Node m) → row_block row ≡ block (items-the_row-Node m row)
+row_is m end_of-Node = refl
+row_is m (more_of-Node x xs) = ap (λ b. tree.Follow (form x) b) (row_is _ xs)
+
+abbrev row_of : Node → (m : Count) × Row_of-Node m
+row_of (Loop' _ row) = (_, row)
+row_of _ = (_, end_of-Node)
+
+abbrev row_list : List Node → tree.Block
+row_list xs = row_block (row_of (Loop xs)).1
+
+list_is : (xs : List Node) → row_list xs ≡ block xs
+list_is xs = let row = row_of (Loop xs) in row_is row.0 row.1 ∙ ap block (items_hidden-the_row-Node-0 xs)
+
+pub form_loop : (xs : List Node) → form (Loop xs) ≡ tree.Loop (block xs)
+form_loop xs = ap tree.Loop (list_is xs)
+
+pub form_if : (t : Operand) (ys zs : List Node) → form (If t ys zs) ≡ tree.If t (block ys) (block zs)
+form_if t ys zs = ap (λ b. tree.If t b (row_list zs)) (list_is ys) ∙ ap (λ b. tree.If t (block ys) b) (list_is zs)
+
+pub form_catch : (t : ℕ) (ys zs : List Node) → form (Catch t ys zs) ≡ tree.Catch t (block ys) (block zs)
+form_catch t ys zs = ap (λ b. tree.Catch t b (row_list zs)) (list_is ys) ∙ ap (λ b. tree.Catch t (block ys) b) (list_is zs)
+
+put_then : (o p : List Line) (x : Line) (tail : List Line) → p ≡ o ++ x ∷ [] → p ++ tail ≡ o ++ x ∷ tail
+put_then o p x tail e = ap (λ l. l ++ tail) e ∙ append_assoc o (x ∷ []) tail
+
+-- what a call of `lower_nodes` gives
+pub record Emits (o p : List Line) (xs : List Node) (k k' fail : ℕ) (ex ex' : List ℕ) : Type 0 where
+  pub lines : (tail : List Line) → p ++ tail ≡ o ++ block_lines (block xs) k fail ex tail
+  pub drawn : k' ≡ k + labels (block xs)
+  pub exits : ex' ≡ ex
+
+pub emit_if : (t : Operand) (a : _) (fail k k1 k2 k3 k4 first end : ℕ) (ex ex1 ex2 : List ℕ) (ys zs : List Node) (o0 o1 o2 o3 o4 o5 o6 : List Line) → a ≡ operand_of t → first ≡ k → k1 ≡ k + 1 → end ≡ k1 → k2 ≡ k1 + 1 → o1 ≡ o0 ++ Do (flat.Branch a first) ∷ [] → Emits o1 o2 zs k2 k3 fail ex ex1 → o3 ≡ o2 ++ Do (flat.Goto end) ∷ [] → o4 ≡ o3 ++ Label first ∷ [] → Emits o4 o5 ys k3 k4 fail ex1 ex2 → o6 ≡ o5 ++ Label end ∷ [] → (mid : List Line) → o6 ++ mid ≡ o0 ++ form_lines (form (If t ys zs)) k fail ex mid
+emit_if t a fail k k1 k2 k3 k4 first end ex ex1 ex2 ys zs o0 o1 o2 o3 o4 o5 o6 ea f1 f2 f3 f4 p1 other p2 p3 then p4 mid =
+    let e2 : k2 ≡ k + 2 = omega arith in
+    let e1 : end ≡ k + 1 = omega arith in
+    let e3 : k3 ≡ k + 2 + labels (block zs) = omega (arith, other.drawn) in
+    let y = block_lines (block ys) k3 fail ex1 (Label end ∷ mid) in
+    put_then o5 o6 (Label end) mid p4
+    ∙ then.lines (Label end ∷ mid)
+    ∙ put_then o3 o4 (Label first) y p3
+    ∙ put_then o2 o3 (Do (flat.Goto end)) (Label first ∷ y) p2
+    ∙ other.lines (Do (flat.Goto end) ∷ Label first ∷ y)
+    ∙ put_then o0 o1 (Do (flat.Branch a first)) (block_lines (block zs) k2 fail ex (Do (flat.Goto end) ∷ Label first ∷ y)) p1
+    ∙ rw (ea, f1, e1, e2, e3, other.exits) refl
+    ∙ ap (λ b. o0 ++ form_lines b k fail ex mid) (sym (form_if t ys zs))
+
+pub emit_loop : (fail k k1 k2 k3 head end : ℕ) (ex ex1 ex2 : List ℕ) (xs : List Node) (o0 o1 o2 o3 o4 : List Line) → head ≡ k → k1 ≡ k + 1 → end ≡ k1 → k2 ≡ k1 + 1 → o1 ≡ o0 ++ Label head ∷ [] → ex1 ≡ end ∷ ex → Emits o1 o2 xs k2 k3 fail ex1 ex2 → o3 ≡ o2 ++ Do (flat.Goto head) ∷ [] → o4 ≡ o3 ++ Label end ∷ [] → (mid : List Line) → o4 ++ mid ≡ o0 ++ form_lines (form (Loop xs)) k fail ex mid
+emit_loop fail k k1 k2 k3 head end ex ex1 ex2 xs o0 o1 o2 o3 o4 f1 f2 f3 f4 p1 x1 body p2 p3 mid =
+    let e2 : k2 ≡ k + 2 = omega arith in
+    let e1 : end ≡ k + 1 = omega arith in
+    put_then o3 o4 (Label end) mid p3
+    ∙ put_then o2 o3 (Do (flat.Goto head)) (Label end ∷ mid) p2
+    ∙ body.lines (Do (flat.Goto head) ∷ Label end ∷ mid)
+    ∙ put_then o0 o1 (Label head) (block_lines (block xs) k2 fail ex1 (Do (flat.Goto head) ∷ Label end ∷ mid)) p1
+    ∙ rw (x1, f1, e1, e2) refl
+    ∙ ap (λ b. o0 ++ form_lines b k fail ex mid) (sym (form_loop xs))
+
+pub emit_catch : (t fail k k1 k2 k3 k4 caught end : ℕ) (ex ex1 ex2 : List ℕ) (xs hs : List Node) (o0 o2 o3 o4 o5 o6 o7 : List Line) → caught ≡ k → k1 ≡ k + 1 → end ≡ k1 → k2 ≡ k1 + 1 → Emits o0 o2 xs k2 k3 caught ex ex1 → o3 ≡ o2 ++ Do (flat.Goto end) ∷ [] → o4 ≡ o3 ++ Label caught ∷ [] → o5 ≡ o4 ++ Do (flat.Caught t) ∷ [] → Emits o5 o6 hs k3 k4 fail ex1 ex2 → o7 ≡ o6 ++ Label end ∷ [] → (mid : List Line) → o7 ++ mid ≡ o0 ++ form_lines (form (Catch t xs hs)) k fail ex mid
+emit_catch t fail k k1 k2 k3 k4 caught end ex ex1 ex2 xs hs o0 o2 o3 o4 o5 o6 o7 f1 f2 f3 f4 body p2 p3 p4 handler p5 mid =
+    let e2 : k2 ≡ k + 2 = omega arith in
+    let e1 : end ≡ k + 1 = omega arith in
+    let e3 : k3 ≡ k + 2 + labels (block xs) = omega (arith, body.drawn) in
+    let y = block_lines (block hs) k3 fail ex1 (Label end ∷ mid) in
+    put_then o6 o7 (Label end) mid p5
+    ∙ handler.lines (Label end ∷ mid)
+    ∙ put_then o4 o5 (Do (flat.Caught t)) y p4
+    ∙ put_then o3 o4 (Label caught) (Do (flat.Caught t) ∷ y) p3
+    ∙ put_then o2 o3 (Do (flat.Goto end)) (Label caught ∷ Do (flat.Caught t) ∷ y) p2
+    ∙ body.lines (Do (flat.Goto end) ∷ Label caught ∷ Do (flat.Caught t) ∷ y)
+    ∙ rw (f1, e1, e2, e3, body.exits) refl
+    ∙ ap (λ b. o0 ++ form_lines b k fail ex mid) (sym (form_catch t xs hs))
+
+pub drawn_if : (t : Operand) (k k1 k2 k3 k4 : ℕ) (ys zs : List Node) → k1 ≡ k + 1 → k2 ≡ k1 + 1 → k3 ≡ k2 + labels (block zs) → k4 ≡ k3 + labels (block ys) → k4 ≡ k + form_labels (form (If t ys zs))
+drawn_if t k k1 k2 k3 k4 ys zs e1 e2 e3 e4 = omega (arith, ap form_labels (form_if t ys zs))
+
+pub drawn_loop : (k k1 k2 k3 : ℕ) (xs : List Node) → k1 ≡ k + 1 → k2 ≡ k1 + 1 → k3 ≡ k2 + labels (block xs) → k3 ≡ k + form_labels (form (Loop xs))
+drawn_loop k k1 k2 k3 xs e1 e2 e3 = omega (arith, ap form_labels (form_loop xs))
+
+pub drawn_catch : (t k k1 k2 k3 k4 : ℕ) (xs hs : List Node) → k1 ≡ k + 1 → k2 ≡ k1 + 1 → k3 ≡ k2 + labels (block xs) → k4 ≡ k3 + labels (block hs) → k4 ≡ k + form_labels (form (Catch t xs hs))
+drawn_catch t k k1 k2 k3 k4 xs hs e1 e2 e3 e4 = omega (arith, ap form_labels (form_catch t xs hs))

@@ -1,0 +1,11 @@
+mod Labels
+mod Points
+mod Mute
+mod Ran
+mod Parts
+mod Bodies
+mod Forms
+mod Program
+mod Opening
+mod Scripts
+mod Emitted

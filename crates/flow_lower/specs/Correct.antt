@@ -1,0 +1,37 @@
+-- When flat code is that of a node tree, and does what it does.
+use Rattle.std.specs.Prelude.{ℕ, ◌+◌, List, [], ◌∷◌, ◌≡◌}
+use Rattle.nu_run.specs.Runs.{IsDefined, Same}
+use Rattle.nu_calls.specs.Rules.{Rules}
+use Rattle.node_tree.specs.declared.script.NodeCode.{NodeCode}
+use Rattle.node_tree.specs.declared.script.NodeScript.{NodeScript}
+use Rattle.node_tree.specs.Run.{node_run}
+use Rattle.node_tree.specs.Tree.{block}
+use Rattle.flow_code.specs.declared.function.FlatFunction.{FlatFunction}
+use Rattle.flow_code.specs.declared.function.FlatScript.{FlatScript}
+use Rattle.flow_code.specs.Run.{flat_run}
+use Rattle.flow_lower.specs.Lower.{labels, code_lines}
+
+-- a function is that of a code: the same name, parameters, kind and first line, and the code's lines
+pub record LowersCode (code : NodeCode) (f : FlatFunction) : Type 0 where
+  pub scope : f.scope ≡ code.scope
+  pub params : f.params ≡ code.params
+  pub generator : f.generator ≡ code.generator
+  pub line : f.line ≡ code.line
+  pub labels : f.labels ≡ 1 + labels (block code.body)
+  pub body : f.body ≡ code_lines code
+
+-- one function for each code
+abbrev pub LowersEach : List NodeCode → List FlatFunction → Type 0
+LowersEach [] [] = Unit {0}
+LowersEach (c ∷ cs) (f ∷ fs) = LowersCode c f × LowersEach cs fs
+LowersEach cs fs = ⊥
+
+-- the same name and number of script functions, and one function for each code
+pub record Lowers (script : NodeScript) (flat : FlatScript) : Type 0 where
+  pub name : flat.name ≡ script.name
+  pub scripts : flat.scripts ≡ script.scripts
+  pub functions : LowersEach script.codes flat.functions
+
+-- under all rules of operations and over every input, flat code does what the nodes do, where those never end Undefined
+abbrev pub DoesTheSame : NodeScript → FlatScript → Type 0
+DoesTheSame script flat = (rules : Rules) (input : List ℕ) → IsDefined (node_run rules script input) → Same (node_run rules script input) (flat_run rules flat input)

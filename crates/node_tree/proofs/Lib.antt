@@ -1,0 +1,2 @@
+mod Direct
+mod Example

@@ -1,0 +1,30 @@
+-- Blocks of primitive statements, as the meaning reads them: a block is the end, or a statement and the rest.
+use Rattle.std.specs.Prelude.{ℕ, List}
+use Rattle.op_rules.specs.declared.constant.Const.{Const}
+use Rattle.op_rules.specs.declared.op.Op.{Op}
+use Rattle.node_tree.specs.declared.node.Argument.{Argument}
+use Rattle.node_tree.specs.declared.node.Operand.{Operand}
+
+mutual
+  pub data Form : Type 0 where
+    Constant : (to : ℕ) (c : Const) → Form
+    Copy : (to from : ℕ) → Form
+    Do : (to line : ℕ) (o : Op) (args : List Argument) → Form
+    Call : (to line : ℕ) (function : Operand) (args : List Operand) → Form
+    Yield : (to line : ℕ) (a : Operand) → Form
+    If : (test : Operand) (y n : Block) → Form
+    Loop : (body : Block) → Form
+    Leave : (levels : ℕ) → Form
+    Catch : (to : ℕ) (body handler : Block) → Form
+    Return : (a : Operand) → Form
+    Raise : (a : Operand) → Form
+    Unset : (to : ℕ) → Form
+
+  pub data Block : Type 0 where
+    Stop : Block
+    Follow : (x : Form) (rest : Block) → Block
+
+-- one block after another
+abbrev pub append : Block → Block → Block
+append Stop q = q
+append (Follow x r) q = Follow x (append r q)

@@ -1,0 +1,55 @@
+-- Exceptions: how they are made, their entries and classes (reference, section 8.4; library reference, exceptions).
+use Rattle.std.specs.Prelude.{ℕ, zero, suc, List, [], ◌∷◌, ◌++◌, Option, Some, None, Bool, true, false, ◌||◌, nat_eq, length, slice_get, slice_set}
+use Rattle.nu_value.specs.declared.entries.Entry.{Entry}
+use Rattle.nu_value.specs.declared.object.Object.{Object}
+use Rattle.nu_value.specs.declared.object.Object.TheVariants as object
+use Rattle.nu_value.specs.declared.value.Value.{Value}
+
+-- an exception, and the objects with it
+pub record Thrown : Type 0 where
+  pub exception : ℕ
+  pub heap : List Object
+
+abbrev pub made_of : ℕ → List Value → List Object → Option Object → Thrown
+made_of n args h (Some (object.Class name base own native)) =
+    record { exception = length h; heap = h ++ object.Exception n args [] [] ∷ [] }
+made_of n args h other = record { exception = n; heap = h }
+
+-- a new exception of a class, or the exception itself
+abbrev pub exception_made : ℕ → List Value → List Object → Thrown
+exception_made n args h = made_of n args h (slice_get h n)
+
+abbrev pub entered : Entry → Option Object → Option Object
+entered entry (Some (object.Exception class args entries fields)) = Some (object.Exception class args (entry ∷ entries) fields)
+entered entry other = None
+
+abbrev pub put_back : List Object → ℕ → Option Object → List Object
+put_back h n None = h
+put_back h n (Some o) = slice_set h n o
+
+-- An entry in front of those that the exception has. Functions of the built-in text put none.
+abbrev pub with_entry : Bool → ℕ → List ℕ → ℕ → List Object → List Object
+with_entry true line scope n h = h
+with_entry false line scope n h = put_back h n (entered (record { line = line; scope = scope }) (slice_get h n))
+
+abbrev pub base_of : Option Object → Option ℕ
+base_of (Some (object.Class name base own native)) = base
+base_of other = None
+
+-- the class, or a class that it stands under within so many steps, is the one of this number
+abbrev pub is_under : ℕ → List Object → Option ℕ → ℕ → Bool
+is_under zero h c base = false
+is_under (suc n) h None base = false
+is_under (suc n) h (Some c) base = nat_eq c base || is_under n h (base_of (slice_get h c)) base
+
+abbrev pub class_of : Option Object → Option ℕ
+class_of (Some (object.Exception class args entries fields)) = Some class
+class_of other = None
+
+-- the exception of this number is one of a class, or of one under it
+abbrev pub is_kind : List Object → ℕ → ℕ → Bool
+is_kind h e class = is_under (suc (length h)) h (class_of (slice_get h e)) class
+
+abbrev pub entries_of : Option Object → List Entry
+entries_of (Some (object.Exception class args entries fields)) = entries
+entries_of other = []

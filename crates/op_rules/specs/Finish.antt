@@ -1,0 +1,49 @@
+-- What becomes of the value of a function that an operation asked.
+use Rattle.std.specs.Prelude.{ℤ, pos, List, [], ◌∷◌, ◌++◌, Option, Some, None, Bool, true, false, not, codes, if◌then◌else◌, int_lt, length}
+use Rattle.std.specs.Ordering.{int_eq}
+use Rattle.nu_value.specs.declared.value.Value.{Value}
+use Rattle.nu_value.specs.declared.value.Value.TheVariants as value
+use Rattle.nu_value.specs.declared.object.Object.{Object}
+use Rattle.nu_value.specs.declared.object.Object.TheVariants as object
+use Rattle.nu_value.specs.Same.{number_of, object_of}
+use Rattle.op_rules.specs.declared.end.OpEnd.{OpEnd}
+use Rattle.op_rules.specs.declared.end.OpEnd.TheVariants as opend
+use Rattle.op_rules.specs.declared.end.After.{After}
+use Rattle.op_rules.specs.declared.end.After.TheVariants as after
+use Rattle.op_rules.specs.declared.world.World.{World}
+use Rattle.op_rules.specs.Kinds.{type_error, value_error}
+use Rattle.op_rules.specs.NameRows.{Answer, keeps, later}
+use Rattle.op_rules.specs.Comparisons.{give_bool}
+
+abbrev pub truth_after : Value → OpEnd
+truth_after (value.Bool b) = give_bool b
+truth_after other = type_error (codes "__bool__ should return bool")
+
+-- a length, and what is given for it
+abbrev pub length_after : (ℤ → OpEnd) → Option ℤ → OpEnd
+length_after f None = type_error (codes "__len__ should return an int")
+length_after f (Some z) = if int_lt z (pos 0) then value_error (codes "__len__() should return >= 0") else f z
+
+abbrev pub is_none : Value → Bool
+is_none value.None = true
+is_none other = false
+
+-- what `__init__` has to answer
+abbrev pub made_after : Value → Value → OpEnd
+made_after value.None answer = opend.Give value.None
+made_after made answer = if is_none answer then opend.Give made else type_error (codes "__init__() should return None")
+
+abbrev pub tuple_after : List Object → Option Object → Answer
+tuple_after h (Some (object.List items)) = record { end = opend.Give (value.Obj (length h)); heap = h ++ object.Tuple items ∷ [] }
+tuple_after h other = later h
+
+-- Joining comes with the methods of texts, and a report is the machine's own.
+abbrev pub finished : After → World → Value → Answer
+finished after.Plain w v = keeps w.heap (opend.Give v)
+finished after.Truth w v = keeps w.heap (truth_after v)
+finished after.Some w v = keeps w.heap (length_after (λ z. give_bool (not (int_eq z (pos 0)))) (number_of v))
+finished after.Length w v = keeps w.heap (length_after (λ z. opend.Give (value.Int z)) (number_of v))
+finished (after.Made made) w v = keeps w.heap (made_after made v)
+finished (after.Join text) w v = later w.heap
+finished after.Tuple w v = tuple_after w.heap (object_of w.heap v)
+finished (after.Report exception) w v = later w.heap

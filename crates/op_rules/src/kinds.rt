@@ -1,0 +1,111 @@
+//! The kinds of values by name, and the exceptions that operations raise.
+
+ghost use Rattle.std.specs.Prelude.{◌≡◌, IfOk, slice_get};
+ghost use Rattle.op_rules.specs.Kinds as spec;
+
+use crate::end::OpEnd;
+use nu_text::RcStr;
+use nu_value::{Heap, Items, Object, Value};
+use std::alloc::{AllocError, Global};
+
+/// The name of a value's kind: that of its class.
+pub fn kind_name<'a>(heap: &'a Heap, value: &Value) -> &'a str
+    ensures { result.now ≡ spec.kind_name heap.now value.now }
+{
+    match value {
+        Value::Unset => "object",
+        Value::None => "NoneType",
+        Value::Bool(_) => "bool",
+        Value::Int(_) => "int",
+        Value::Str(_) => "str",
+        Value::Obj(number) => match heap.get(*number) {
+            None => "object",
+            Some(Object::Tuple(_)) => "tuple",
+            Some(Object::List(_)) => "list",
+            Some(Object::Dict(_)) => "dict",
+            Some(Object::Range { .. }) => "range",
+            Some(Object::Function { .. }) => "function",
+            Some(Object::Method { .. }) => "method",
+            Some(Object::Class { .. }) => "type",
+            Some(Object::Instance { class, .. }) => class_name(heap, *class),
+            Some(Object::Generator { .. }) => "generator",
+            Some(Object::Iterator { .. }) => "iterator",
+            Some(Object::View { .. }) => "view",
+            Some(Object::Cell(_)) => "cell",
+            Some(Object::Space(_)) => "space",
+            Some(Object::Exception { class, .. }) => class_name(heap, *class),
+            Some(Object::Builtin { .. }) => "builtin",
+            Some(Object::Trace(_)) => "traceback",
+        },
+    }
+}
+
+fn class_name(heap: &Heap, class: u64) -> &str
+    ensures { result.now ≡ spec.class_name (slice_get heap.now class) }
+{
+    match heap.get(class) {
+        Some(Object::Class { name, .. }) => name.as_str(),
+        _ => "object",
+    }
+}
+
+/// An exception of the class of this number, with a text.
+pub fn raised(alloc: Global, class: u64, text: &str) -> Result<OpEnd, AllocError>
+    ensures { IfOk result (λ e. e ≡ spec.raised class text.now) }
+{
+    let mut items = Items::new(alloc);
+    items.push(Value::Str(RcStr::from_str(alloc, text)?))?;
+    Ok(OpEnd::Raise(class, items))
+}
+
+/// The error of two operands that have no result with this sign.
+pub fn no_operands(
+    alloc: Global,
+    sign: &str,
+    heap: &Heap,
+    a: &Value,
+    b: &Value,
+) -> Result<OpEnd, AllocError>
+    ensures { IfOk result (λ e. e ≡ spec.no_operands sign.now heap.now a.now b.now) }
+{
+    let mut text = String::from_str(alloc, "unsupported operand type(s) for ")?;
+    text.push_str(sign)?;
+    text.push_str(": '")?;
+    text.push_str(kind_name(heap, a))?;
+    text.push_str("' and '")?;
+    text.push_str(kind_name(heap, b))?;
+    text.push_str("'")?;
+    raised(alloc, 35, text.as_str())
+}
+
+/// The error of an operand that has no result with this sign.
+pub fn no_operand(alloc: Global, sign: &str, heap: &Heap, a: &Value) -> Result<OpEnd, AllocError>
+    ensures { IfOk result (λ e. e ≡ spec.no_operand sign.now heap.now a.now) }
+{
+    let mut text = String::from_str(alloc, "bad operand type for unary ")?;
+    text.push_str(sign)?;
+    text.push_str(": '")?;
+    text.push_str(kind_name(heap, a))?;
+    text.push_str("'")?;
+    raised(alloc, 35, text.as_str())
+}
+
+/// The error of two operands that have no order.
+pub fn no_order(
+    alloc: Global,
+    sign: &str,
+    heap: &Heap,
+    a: &Value,
+    b: &Value,
+) -> Result<OpEnd, AllocError>
+    ensures { IfOk result (λ e. e ≡ spec.no_order sign.now heap.now a.now b.now) }
+{
+    let mut text = String::from_str(alloc, "'")?;
+    text.push_str(sign)?;
+    text.push_str("' not supported between instances of '")?;
+    text.push_str(kind_name(heap, a))?;
+    text.push_str("' and '")?;
+    text.push_str(kind_name(heap, b))?;
+    text.push_str("'")?;
+    raised(alloc, 35, text.as_str())
+}

@@ -1,0 +1,3 @@
+mod DirectExpressions
+mod DirectStatements
+mod Examples

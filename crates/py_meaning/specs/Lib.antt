@@ -1,0 +1,9 @@
+pub mod Syntax
+pub mod Frames
+pub mod Expressions
+pub mod Statements
+pub mod Bodies
+pub mod Scopes
+pub mod Resolved
+pub mod Script
+pub mod Laws

@@ -1,0 +1,11 @@
+mod Underscore
+mod Lambdas
+mod Outward
+mod Repeats
+mod Turns
+mod Exact
+mod Table
+mod Changed
+mod Filled
+mod NearestHome
+pub mod OneRefusal

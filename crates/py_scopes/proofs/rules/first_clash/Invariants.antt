@@ -1,0 +1,13 @@
+use Rattle.std.proofs.Common.{◌≡◌, take, drop}
+use Rattle.py_scopes.specs.Passes as passes
+use Rattle.py_scopes.specs.Rules as spec
+use Rattle.py_scopes.specs.Seen as sees
+use Rattle.py_scopes.proofs.rules.first_clash.Given as goal
+
+abbrev pub invariant-loop-site : goal.invariant-loop-site
+invariant-loop-site l = record {
+  found :
+      passes.first_fault spec.Declare l.survey
+      ≡ passes.first_at_fault (spec.fault spec.Declare l.survey) (take l.site-index l.survey.sites) (drop l.site-index l.survey.sites);
+  before : sees.Sees l.before (take l.site-index l.survey.sites);
+}

@@ -1,0 +1,10 @@
+pub mod Names
+pub mod Parts
+pub mod Survey
+pub mod Homes
+pub mod Rules
+pub mod Seen
+pub mod Nearest
+pub mod Passes
+pub mod Filling
+pub mod Resolve

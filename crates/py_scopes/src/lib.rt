@@ -1,0 +1,35 @@
+//! Where the names of a script live, and its static rules (reference, sections 4.2, 6 to 8).
+#![tactic(auto)]
+
+ghost use Rattle.py_scopes.specs.Resolve.{Answers};
+
+mod end;
+mod homes;
+mod names;
+mod rules;
+mod scopes;
+mod seen;
+mod survey;
+mod surveyor;
+#[cfg(test)]
+mod tests;
+
+use crate::scopes::resolved;
+pub use end::ScopeEnd;
+pub use homes::has_nearest_home;
+use py_ast::{Scoped, Script};
+use std::alloc::Global;
+
+/// The scopes of a script with the homes of their names, or the first kind of the table whose rule it breaks.
+///
+/// The kinds and their order are those of `ScopeEnd`. A kind comes where the script breaks its rule anywhere and no
+/// rule of an earlier kind, on the line of the first place that breaks it. `Memory` says nothing of the script.
+pub fn resolve(alloc: Global, script: Script) -> Result<Scoped, ScopeEnd>
+    ensures { Answers script result }
+{
+    match resolved(alloc, &script) {
+        Ok(Ok(scopes)) => Ok(Scoped { script, scopes }),
+        Ok(Err(end)) => Err(end),
+        Err(_) => Err(ScopeEnd::Memory),
+    }
+}

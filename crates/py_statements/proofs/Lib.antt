@@ -1,0 +1,11 @@
+pub mod Steps
+pub mod Starts
+pub mod Rows
+pub mod SimpleRead
+pub mod BlocksRead
+pub mod Complete
+pub mod Apart
+pub mod SimpleSpelled
+pub mod BlocksSpelled
+pub mod Nesting
+pub mod Top

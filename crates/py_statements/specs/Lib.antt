@@ -1,0 +1,5 @@
+pub mod Grammar
+pub mod Nesting
+pub mod Parse
+pub mod Script
+pub mod Words

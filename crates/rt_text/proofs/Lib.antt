@@ -1,0 +1,4 @@
+mod Arguments
+mod Copies
+mod Encoded
+mod Ordered

@@ -1,0 +1,131 @@
+//! What becomes of the value of a function that an operation asked.
+
+ghost use Rattle.std.specs.Prelude.{◌≡◌, IfOk, OnOk, pos, not};
+ghost use Rattle.std.specs.Ordering.{int_eq};
+ghost use Rattle.nu_value.specs.declared.value.Value.TheVariants as value_of;
+ghost use Rattle.nu_value.specs.Same.{number_of, object_of};
+ghost use Rattle.op_rules.specs.declared.end.OpEnd.TheVariants as opend;
+ghost use Rattle.op_rules.specs.Comparisons.{give_bool};
+ghost use Rattle.op_rules.specs.Finish as spec;
+ghost use Rattle.op_rules.specs.Laws as laws;
+ghost use Rattle.op_rules.specs.Sound.{AfterIn, EndIn, IsIn, Sound};
+
+use crate::arguments::object_of;
+use nu_run::StopKind;
+use nu_value::{Heap, Items, Object, Value};
+use op_rules::{After, OpEnd, World, finishing_keeps_sound, raised};
+use std::alloc::{AllocError, Global};
+
+const TYPE_ERROR: u64 = 35;
+
+const VALUE_ERROR: u64 = 36;
+
+fn truth(alloc: Global, value: &Value) -> Result<OpEnd, AllocError>
+    ensures { IfOk result (λ e. e ≡ spec.truth_after value.now) }
+{
+    match value {
+        Value::Bool(truth) => Ok(OpEnd::Give(Value::Bool(*truth))),
+        _ => raised(alloc, TYPE_ERROR, "__bool__ should return bool"),
+    }
+}
+
+fn length(alloc: Global, value: &Value) -> Result<OpEnd, AllocError>
+    ensures { IfOk result (λ e. e ≡ spec.length_after (λ z. opend.Give (value_of.Int z)) (number_of value.now)) }
+{
+    let Some(length) = value.number() else {
+        return raised(alloc, TYPE_ERROR, "__len__ should return an int");
+    };
+    if length < 0 {
+        raised(alloc, VALUE_ERROR, "__len__() should return >= 0")
+    } else {
+        Ok(OpEnd::Give(Value::Int(length)))
+    }
+}
+
+fn some(alloc: Global, value: &Value) -> Result<OpEnd, AllocError>
+    ensures { IfOk result (λ e. e ≡ spec.length_after (λ z. give_bool (not (int_eq z (pos 0)))) (number_of value.now)) }
+{
+    let Some(length) = value.number() else {
+        return raised(alloc, TYPE_ERROR, "__len__ should return an int");
+    };
+    if length < 0 {
+        raised(alloc, VALUE_ERROR, "__len__() should return >= 0")
+    } else {
+        Ok(OpEnd::Give(Value::Bool(length != 0)))
+    }
+}
+
+fn made(alloc: Global, made: Value, value: &Value) -> Result<OpEnd, AllocError>
+    ensures { IfOk result (λ e. e ≡ spec.made_after made value.now) }
+{
+    match made {
+        Value::None => Ok(OpEnd::Give(Value::None)),
+        made => match value {
+            Value::None => Ok(OpEnd::Give(made)),
+            _ => raised(alloc, TYPE_ERROR, "__init__() should return None"),
+        },
+    }
+}
+
+// The same values in a list of their own.
+fn copied(alloc: Global, values: &[Value]) -> Result<Items, AllocError>
+    ensures { IfOk result (λ items. items ≡ values.now) }
+{
+    let mut items = Items::new(alloc);
+    for value in values {
+        items.push(value.copy()?)?;
+    }
+    Ok(items)
+}
+
+fn tuple(alloc: Global, heap: &mut Heap, value: &Value) -> Result<OpEnd, AllocError>
+    ensures end { IfOk result (λ e. e ≡ (spec.tuple_after heap.old (object_of heap.old value.now)).end) }
+    ensures heap { OnOk result (heap.new ≡ (spec.tuple_after heap.old (object_of heap.old value.now)).heap) }
+{
+    let Some(Object::List(items)) = object_of(heap, value) else {
+        return Ok(OpEnd::Stop(StopKind::Unbuilt));
+    };
+    let items = copied(alloc, items.as_slice())?;
+    let number = heap.make(Object::Tuple(items))?;
+    Ok(OpEnd::Give(Value::Obj(number)))
+}
+
+fn finished(
+    alloc: Global,
+    world: &mut World,
+    after: After,
+    value: Value,
+) -> Result<OpEnd, AllocError>
+    ensures end { IfOk result (λ e. e ≡ (spec.finished after world.old value).end) }
+    ensures world { OnOk result (world.new ≡ laws.after world.old (spec.finished after world.old value)) }
+{
+    match after {
+        After::Plain => Ok(OpEnd::Give(value)),
+        After::Truth => truth(alloc, &value),
+        After::Some => some(alloc, &value),
+        After::Length => length(alloc, &value),
+        After::Made(new) => made(alloc, new, &value),
+        After::Tuple => tuple(alloc, &mut world.heap, &value),
+        After::Join(_) | After::Report(_) => Ok(OpEnd::Stop(StopKind::Unbuilt)),
+    }
+}
+
+/// What an operation gives, raises or stops with, from the value of the function that it asked, and the world after it. A sound
+/// world stays sound, and the end names only objects of it.
+pub fn finish(
+    alloc: Global,
+    world: &mut World,
+    after: After,
+    value: Value,
+) -> Result<OpEnd, AllocError>
+    requires sound { Sound world.old }
+    requires after { AfterIn world.old.heap after }
+    requires value { IsIn world.old.heap value }
+    ensures end { IfOk result (λ e. e ≡ (spec.finished after world.old value).end) }
+    ensures world { OnOk result (world.new ≡ laws.after world.old (spec.finished after world.old value)) }
+    ensures sound { OnOk result (Sound world.new) }
+    ensures names { IfOk result (λ e. EndIn world.new.heap e) }
+{
+    finishing_keeps_sound();
+    finished(alloc, world, after, value)
+}

@@ -1,0 +1,13 @@
+//! The table of operations: which arguments fit one, what it does to a world, and what becomes of an asked function's value.
+#![tactic(auto)]
+
+mod arguments;
+mod calls;
+mod finishing;
+mod names;
+mod table;
+
+pub use arguments::fits;
+pub use finishing::finish;
+pub use op_rules::World;
+pub use table::apply;

@@ -1,0 +1,279 @@
+//! Operations on names and cells (reference, section 4.2).
+
+ghost use Rattle.std.specs.Prelude.{◌≡◌, ◌<◌, ◌++◌, IfOk, OnOk, IfSome, length, slice_get, slice_set, option_copied};
+ghost use Rattle.nu_value.specs.Names.{value_at};
+ghost use Rattle.nu_value.specs.declared.object.Object.TheVariants as object;
+ghost use Rattle.op_rules.specs.Kinds as kinds;
+ghost use Rattle.op_rules.specs.Laws.{after};
+ghost use Rattle.op_rules.specs.NameRows as spec;
+
+use nu_run::StopKind;
+use nu_text::RcStr;
+use nu_value::{Heap, Object, Value};
+use op_rules::{OpEnd, World, raised};
+use std::alloc::{AllocError, Global};
+
+pub const NAME_ERROR: u64 = 30;
+
+pub const UNBOUND_LOCAL_ERROR: u64 = 31;
+
+// An exception with a text that has a name in its middle.
+fn raised_of(
+    alloc: Global,
+    class: u64,
+    front: &str,
+    name: &str,
+    back: &str,
+) -> Result<OpEnd, AllocError>
+    ensures { IfOk result (λ e. e ≡ kinds.raised class (front.now ++ name.now ++ back.now)) }
+{
+    let mut text = String::from_str(alloc, front)?;
+    text.push_str(name)?;
+    text.push_str(back)?;
+    raised(alloc, class, text.as_str())
+}
+
+fn not_defined(alloc: Global, name: &str) -> Result<OpEnd, AllocError>
+    ensures { IfOk result (λ e. e ≡ spec.not_defined name.now) }
+{
+    raised_of(alloc, NAME_ERROR, "name '", name, "' is not defined")
+}
+
+fn no_local(alloc: Global, name: &str) -> Result<OpEnd, AllocError>
+    ensures { IfOk result (λ e. e ≡ spec.no_local name.now) }
+{
+    raised_of(
+        alloc,
+        UNBOUND_LOCAL_ERROR,
+        "cannot access local variable '",
+        name,
+        "' where it is not associated with a value",
+    )
+}
+
+fn no_free(alloc: Global, name: &str) -> Result<OpEnd, AllocError>
+    ensures { IfOk result (λ e. e ≡ spec.no_free name.now) }
+{
+    raised_of(
+        alloc,
+        NAME_ERROR,
+        "cannot access free variable '",
+        name,
+        "' where it is not associated with a value in enclosing scope",
+    )
+}
+
+fn in_space<'a>(heap: &'a Heap, space: u64, name: &str) -> Option<&'a Value>
+    ensures { option_copied result ≡ value_at (spec.names_of (slice_get heap.now space)) name.now }
+{
+    match heap.get(space) {
+        Some(Object::Space(names)) => names.get(name),
+        _ => None,
+    }
+}
+
+/// The value of a name in the module, or else among the built-in names.
+pub fn global_row(alloc: Global, world: &World, name: &str) -> Result<OpEnd, AllocError>
+    ensures { IfOk result (λ e. e ≡ spec.global_row world.now name.now) }
+{
+    if let Some(value) = in_space(&world.heap, world.module, name) {
+        return Ok(OpEnd::Give(value.copy()?));
+    }
+    match in_space(&world.heap, world.builtins, name) {
+        Some(value) => Ok(OpEnd::Give(value.copy()?)),
+        None => not_defined(alloc, name),
+    }
+}
+
+fn bind(object: &mut Object, name: RcStr, value: Value) -> Result<(), AllocError>
+    ensures { OnOk result (object.new ≡ spec.with_binding name value object.old) }
+{
+    if let Object::Space(names) = object {
+        names.set(name, value)?;
+    }
+    Ok(())
+}
+
+fn bind_in(heap: &mut Heap, space: u64, name: RcStr, value: Value) -> Result<(), AllocError>
+    requires { space < length heap.old }
+    ensures { OnOk result (IfSome (slice_get heap.old space) (λ o. heap.new ≡ slice_set heap.old space (spec.with_binding name value o))) }
+{
+    let Some(object) = heap.get_mut(space) else {
+        unreachable!();
+    };
+    bind(object, name, value)
+}
+
+/// Gives a name of the module its value.
+pub fn setglobal_row(world: &mut World, name: &RcStr, value: &Value) -> Result<OpEnd, AllocError>
+    ensures end { IfOk result (λ e. e ≡ (spec.setglobal_row world.old name.now value.now).end) }
+    ensures world { OnOk result (world.new ≡ after world.old (spec.setglobal_row world.old name.now value.now)) }
+{
+    let module = world.module;
+    if world.heap.len() <= module {
+        return Ok(OpEnd::Stop(StopKind::Unbuilt));
+    }
+    bind_in(&mut world.heap, module, name.share()?, value.copy()?)?;
+    Ok(OpEnd::Give(Value::None))
+}
+
+fn forget(object: &mut Object, name: &str)
+    ensures { object.new ≡ spec.without_binding name.now object.old }
+{
+    if let Object::Space(names) = object {
+        let _ = names.remove(name);
+    }
+}
+
+fn forget_in(heap: &mut Heap, space: u64, name: &str)
+    requires { space < length heap.old }
+    ensures { IfSome (slice_get heap.old space) (λ o. heap.new ≡ slice_set heap.old space (spec.without_binding name.now o)) }
+{
+    let Some(object) = heap.get_mut(space) else {
+        unreachable!();
+    };
+    forget(object, name);
+}
+
+/// Takes a name out of the module.
+pub fn delglobal_row(alloc: Global, world: &mut World, name: &str) -> Result<OpEnd, AllocError>
+    ensures end { IfOk result (λ e. e ≡ (spec.delglobal_row world.old name.now).end) }
+    ensures world { OnOk result (world.new ≡ after world.old (spec.delglobal_row world.old name.now)) }
+{
+    let module = world.module;
+    if in_space(&world.heap, module, name).is_none() {
+        return not_defined(alloc, name);
+    }
+    if world.heap.len() <= module {
+        return Ok(OpEnd::Stop(StopKind::Unbuilt));
+    }
+    forget_in(&mut world.heap, module, name);
+    Ok(OpEnd::Give(Value::None))
+}
+
+/// The value of a local variable, if it has one.
+pub fn local_row(alloc: Global, value: &Value, name: &str) -> Result<OpEnd, AllocError>
+    ensures { IfOk result (λ e. e ≡ spec.local_row value.now name.now) }
+{
+    match value {
+        Value::Unset => no_local(alloc, name),
+        _ => Ok(OpEnd::Give(value.copy()?)),
+    }
+}
+
+/// A new cell.
+pub fn cell_row(heap: &mut Heap) -> Result<OpEnd, AllocError>
+    ensures end { IfOk result (λ e. e ≡ (spec.cell_row heap.old).end) }
+    ensures heap { OnOk result (heap.new ≡ (spec.cell_row heap.old).heap) }
+{
+    let number = heap.make(Object::Cell(Value::Unset))?;
+    Ok(OpEnd::Give(Value::Obj(number)))
+}
+
+// What a cell holds.
+fn held_by(heap: &Heap, cell: &Value) -> Result<Value, AllocError>
+    ensures { IfOk result (λ v. v ≡ spec.held_by heap.now cell.now) }
+{
+    match cell {
+        Value::Obj(number) => match heap.get(*number) {
+            Some(Object::Cell(value)) => value.copy(),
+            _ => Ok(Value::Unset),
+        },
+        _ => Ok(Value::Unset),
+    }
+}
+
+#[tactic(auto, using(crate::proofs::Places::set_nowhere))]
+fn fill_in(heap: &mut Heap, number: u64, value: Value)
+    ensures { heap.new ≡ slice_set heap.old number (object.Cell value) }
+{
+    let Some(cell) = heap.get_mut(number) else {
+        return;
+    };
+    *cell = Object::Cell(value);
+}
+
+// Fills a cell.
+fn fill(heap: &mut Heap, cell: &Value, value: Value) -> OpEnd
+    ensures end { result ≡ (spec.filled heap.old cell.now value).end }
+    ensures heap { heap.new ≡ (spec.filled heap.old cell.now value).heap }
+{
+    match cell {
+        Value::Obj(number) => {
+            fill_in(heap, *number, value);
+            OpEnd::Give(Value::None)
+        }
+        _ => OpEnd::Stop(StopKind::Unbuilt),
+    }
+}
+
+/// Fills a cell.
+pub fn cellset_row(heap: &mut Heap, cell: &Value, value: &Value) -> Result<OpEnd, AllocError>
+    ensures end { IfOk result (λ e. e ≡ (spec.cellset_row heap.old cell.now value.now).end) }
+    ensures heap { OnOk result (heap.new ≡ (spec.cellset_row heap.old cell.now value.now).heap) }
+{
+    let value = value.copy()?;
+    Ok(fill(heap, cell, value))
+}
+
+/// What a cell of the running function holds.
+pub fn cellget_row(
+    alloc: Global,
+    heap: &Heap,
+    cell: &Value,
+    name: &str,
+) -> Result<OpEnd, AllocError>
+    ensures { IfOk result (λ e. e ≡ spec.cellget_row heap.now cell.now name.now) }
+{
+    match held_by(heap, cell)? {
+        Value::Unset => no_local(alloc, name),
+        value => Ok(OpEnd::Give(value)),
+    }
+}
+
+/// Empties a cell of the running function.
+pub fn celldel_row(
+    alloc: Global,
+    heap: &mut Heap,
+    cell: &Value,
+    name: &str,
+) -> Result<OpEnd, AllocError>
+    ensures end { IfOk result (λ e. e ≡ (spec.celldel_row heap.old cell.now name.now).end) }
+    ensures heap { OnOk result (heap.new ≡ (spec.celldel_row heap.old cell.now name.now).heap) }
+{
+    match held_by(heap, cell)? {
+        Value::Unset => no_local(alloc, name),
+        _ => Ok(fill(heap, cell, Value::Unset)),
+    }
+}
+
+/// What a cell of a function outside holds.
+pub fn freeget_row(
+    alloc: Global,
+    heap: &Heap,
+    cell: &Value,
+    name: &str,
+) -> Result<OpEnd, AllocError>
+    ensures { IfOk result (λ e. e ≡ spec.freeget_row heap.now cell.now name.now) }
+{
+    match held_by(heap, cell)? {
+        Value::Unset => no_free(alloc, name),
+        value => Ok(OpEnd::Give(value)),
+    }
+}
+
+/// Empties a cell of a function outside.
+pub fn freedel_row(
+    alloc: Global,
+    heap: &mut Heap,
+    cell: &Value,
+    name: &str,
+) -> Result<OpEnd, AllocError>
+    ensures end { IfOk result (λ e. e ≡ (spec.freedel_row heap.old cell.now name.now).end) }
+    ensures heap { OnOk result (heap.new ≡ (spec.freedel_row heap.old cell.now name.now).heap) }
+{
+    match held_by(heap, cell)? {
+        Value::Unset => no_free(alloc, name),
+        _ => Ok(fill(heap, cell, Value::Unset)),
+    }
+}
