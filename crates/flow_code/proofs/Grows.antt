@@ -1,6 +1,5 @@
 -- A step only adds to what was printed.
 use Rattle.std.proofs.Common.{ℕ, ◌≤◌, List, [], ◌∷◌, ◌++◌, Option, Some, None, Bool, true, false, slice_get, refl, if◌then◌else◌}
-use Rattle.nu_run.specs.declared.End as run_end
 use Rattle.nu_run.specs.declared.End.TheVariants as end
 use Rattle.nu_run.specs.Runs.{IsPrefix, IsMonotone, Below}
 use Rattle.nu_run.specs.Steps.{Stepped, More, Halt, on_step, run, Grew}
@@ -12,13 +11,13 @@ use Rattle.nu_value.specs.declared.value.Value.TheVariants as value
 use Rattle.op_rules.specs.declared.end.After.TheVariants as after
 use Rattle.op_rules.specs.declared.op.Op.{Op}
 use Rattle.nu_calls.specs.Surroundings.{Surroundings, scene, with_scene, with_frames, with_kept, kept_at}
-use Rattle.nu_rows.specs.Rows.{End, Next, Leave, Raised, Return, Stopped, Undefined, How, Send, Throw}
+use Rattle.nu_rows.specs.Rows.{End, Next, Leave, Raised, Return, Stopped, Undefined, How}
 use Rattle.nu_calls.specs.Scripts.{report_function}
 use Rattle.nu_calls.specs.Traceback.{head_text}
 use Rattle.nu_calls.specs.Ends.{Result, Gives, Raises, Stops, Unsaid, Ending, Begun, Over, Calls, Starts, Wakes, Began, begun_by, generator_paused, generator_ended, call_ended, outside}
 use Rattle.flow_code.specs.declared.statement.Statement.{Statement}
 use Rattle.flow_code.specs.declared.statement.Statement.TheVariants as flat
-use Rattle.flow_code.specs.Machine.{Frame, Waiting, Bottom, Builtins, Script, Report, Stack, Base, Called, Resumed, State, Functions, undefined, using, having, settles, ends, enters, told, goes_on, begins, began, operates, report_begins, report_began, reports, uncaught, script_begins, module_ended, base_ended, body_ended, paused, branches, pending_exception, again, held, values, acts, acts_at, step, printed}
+use Rattle.flow_code.specs.Machine.{Waiting, Bottom, Builtins, Script, Report, Stack, Base, Called, Resumed, State, Functions, undefined, using, having, settles, ends, enters, told, goes_on, begins, operates, report_begins, report_began, reports, uncaught, script_begins, module_ended, base_ended, body_ended, paused, branches, pending_exception, again, held, values, acts, acts_at, step, printed}
 use Rattle.flow_code.specs.Run.{begun, machine_run}
 
 module _ {L : Type 0} (m : Functions L) (base : List ℕ) where

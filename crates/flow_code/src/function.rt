@@ -14,8 +14,6 @@ pub struct FlatFunction {
     pub generator: bool,
     /// The line on which the scope begins, counted from 1.
     pub line: u32,
-    /// How many registers there are.
-    pub registers: u64,
     /// Labels are numbered below this.
     pub labels: u64,
     pub body: Items<Line>,

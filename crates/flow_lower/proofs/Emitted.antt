@@ -1,14 +1,19 @@
 -- What `lower_node` appends are the lines of its node.
-use Rattle.std.proofs.Common.{◌≡◌, ℕ, zero, suc, ◌+◌, ◌≤◌, List, [], ◌∷◌, ◌++◌, length, get_or, refl, sym, ap, ◌∙◌, arith, append_assoc}
+use Rattle.std.proofs.lemmas.List.{length-append}
+use Rattle.std.proofs.Common.{◌<◌, ◌-◌, drop, append-nil, subst, ◌≡◌, ℕ, zero, suc, ◌+◌, ◌≤◌, List, [], ◌∷◌, ◌++◌, length, get_or, refl, sym, ap, ◌∙◌, arith, append_assoc}
 use mathlib.Core.Former.{Count}
 use Rattle.node_tree.specs.declared.node.Node.{Node, If, Loop, Loop', Catch, Row_of-Node, end_of-Node, more_of-Node, items-the_row-Node, items_hidden-the_row-Node-0}
 use Rattle.node_tree.specs.declared.node.Operand.{Operand}
 use Rattle.node_tree.specs.Blocks as tree
 use Rattle.node_tree.specs.Tree.{form, row_block, block}
+use Rattle.node_tree.specs.declared.script.NodeCode.{NodeCode}
+use Rattle.flow_code.specs.declared.function.FlatFunction.{FlatFunction}
 use Rattle.flow_code.specs.declared.statement.Line.{Line}
+use Rattle.flow_code.specs.declared.statement.Statement.{Statement}
 use Rattle.flow_code.specs.declared.statement.Line.TheVariants.{Label, Do}
 use Rattle.flow_code.specs.declared.statement.Statement.TheVariants as flat
-use Rattle.flow_lower.specs.Lower.{operand_of, form_labels, labels, exit, exit_of, form_lines, block_lines}
+use Rattle.flow_lower.specs.Correct.{LowersCode, LowersEach}
+use Rattle.flow_lower.specs.Lower.{form_labels, labels, operand_of, exit, exit_of, form_lines, block_lines, copies, function_lines}
 
 exit_at : (xs : List ℕ) (k : ℕ) → get_or xs k 0 ≡ exit xs k
 exit_at [] k = refl
@@ -108,3 +113,47 @@ drawn_loop k k1 k2 k3 xs e1 e2 e3 = omega (arith, ap form_labels (form_loop xs))
 
 pub drawn_catch : (t k k1 k2 k3 k4 : ℕ) (xs hs : List Node) → k1 ≡ k + 1 → k2 ≡ k1 + 1 → k3 ≡ k2 + labels (block xs) → k4 ≡ k3 + labels (block hs) → k4 ≡ k + form_labels (form (Catch t xs hs))
 drawn_catch t k k1 k2 k3 k4 xs hs e1 e2 e3 e4 = omega (arith, ap form_labels (form_catch t xs hs))
+
+-- what `lower_code` puts together
+pub emit_function : (params free k0 k1 fail : ℕ) (ex : List ℕ) (xs : List Node) (o1 o2 o3 o4 o5 o6 : List Line) → k0 ≡ 0 → fail ≡ k0 → k1 ≡ k0 + 1 → ex ≡ [] → ((tail : List Line) → o1 ++ tail ≡ copies flat.Parameter params 0 0 tail) → length o1 ≡ params → ((tail : List Line) → o2 ++ tail ≡ o1 ++ copies flat.Free free (length o1) 0 tail) → ((tail : List Line) → o3 ++ tail ≡ o2 ++ block_lines (block xs) k1 fail ex tail) → o4 ≡ o3 ++ Do flat.End ∷ [] → o5 ≡ o4 ++ Label fail ∷ [] → o6 ≡ o5 ++ Do flat.Fail ∷ [] → o6 ≡ function_lines params free (block xs)
+emit_function params free k0 k1 fail ex xs o1 o2 o3 o4 o5 o6 z f e x h1 len h2 h3 p4 p5 p6 =
+    let f' : fail ≡ 0 = omega arith in
+    let e' : k1 ≡ 1 = omega arith in
+    let b = block_lines (block xs) k1 fail ex (Do flat.End ∷ Label fail ∷ Do flat.Fail ∷ []) in
+    p6
+    ∙ put_then o4 o5 (Label fail) (Do flat.Fail ∷ []) p5
+    ∙ put_then o3 o4 (Do flat.End) (Label fail ∷ Do flat.Fail ∷ []) p4
+    ∙ h3 (Do flat.End ∷ Label fail ∷ Do flat.Fail ∷ [])
+    ∙ h2 b
+    ∙ h1 (copies flat.Free free (length o1) 0 b)
+    ∙ rw (len, x, f', e') refl
+
+-- one more copy
+pub copies_step : (x : ℕ → ℕ → Statement) (count i to : ℕ) (o p : List Line) → i < count → to ≡ length o → p ≡ o ++ Do (x to i) ∷ [] → (tail : List Line) → p ++ copies x (count - (i + 1)) (length p) (i + 1) tail ≡ o ++ copies x (count - i) (length o) i tail
+copies_step x count i to o p lt et e tail =
+    let m : count - i ≡ suc (count - (i + 1)) = omega arith in
+    let lp : length p ≡ suc (length o) = omega (arith, ap length e, length-append o (Do (x to i) ∷ [])) in
+    let i1 : i + 1 ≡ suc i = omega arith in
+    put_then o p (Do (x to i)) (copies x (count - (i + 1)) (length p) (i + 1) tail) e
+    ∙ ap (λ l. o ++ Do (x to i) ∷ copies x (count - (i + 1)) l (i + 1) tail) lp
+    ∙ ap (λ j. o ++ Do (x to i) ∷ copies x (count - (i + 1)) (suc (length o)) j tail) i1
+    ∙ ap (λ l. o ++ Do (x l i) ∷ copies x (count - (i + 1)) (suc (length o)) (suc i) tail) et
+    ∙ ap (λ n. o ++ copies x n (length o) i tail) (sym m)
+
+-- one more function
+pub each_more : (cs ds : List NodeCode) (fs gs : List FlatFunction) (c : NodeCode) (f : FlatFunction) → LowersCode c f → ((rest : List FlatFunction) → LowersEach (c ∷ ds) rest → LowersEach cs (fs ++ rest)) → gs ≡ fs ++ f ∷ [] → (rest : List FlatFunction) → LowersEach ds rest → LowersEach cs (gs ++ rest)
+each_more cs ds fs gs c f h k e rest r = subst (λ l. LowersEach cs l) (sym (ap (λ l. l ++ rest) e ∙ append_assoc fs (f ∷ []) rest)) (k (f ∷ rest) (h, r))
+
+pub put_length : (o p : List Line) (x : Line) → p ≡ o ++ x ∷ [] → length p ≡ length o + 1
+put_length o p x e = ap length e ∙ length-append o (x ∷ [])
+
+drop_all : (cs : List NodeCode) (i : ℕ) → length cs ≤ i → drop i cs ≡ []
+drop_all [] zero le = refl
+drop_all [] (suc i) le = refl
+drop_all (c ∷ cs) zero le = absurd (omega arith)
+drop_all (c ∷ cs) (suc i) le = drop_all cs i (omega arith)
+
+-- no code is left
+pub each_end : (cs ds : List NodeCode) (fs gs : List FlatFunction) (i : ℕ) → ((rest : List FlatFunction) → LowersEach (drop i cs) rest → LowersEach cs (fs ++ rest)) → length cs ≤ i → cs ≡ ds → gs ≡ fs → LowersEach ds gs
+each_end cs ds fs gs i h le e f =
+    subst (λ l. LowersEach l gs) e (subst (λ l. LowersEach cs l) (append-nil fs ∙ sym f) (h [] (subst (λ l. LowersEach l []) (sym (drop_all cs i le)) tt)))

@@ -9,3 +9,4 @@ mod Program
 mod Opening
 mod Scripts
 mod Emitted
+mod Takes

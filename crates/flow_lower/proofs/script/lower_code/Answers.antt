@@ -1,0 +1,20 @@
+use Rattle.std.proofs.Common.{length, refl, ap, ◌∙◌, arith}
+use Rattle.node_tree.specs.Tree.{block}
+use Rattle.flow_code.specs.declared.statement.Statement.TheVariants as flat
+use Rattle.flow_lower.specs.Lower.{labels, copies, function_lines}
+use Rattle.flow_lower.proofs.Emitted.{emit_function}
+use Rattle.flow_lower.proofs.script.lower_code.Goals as goal
+
+pub returns : goal.returns
+returns c = record {
+  scope = c.in_ok-share.ensures;
+  params = c.in_ok-share_shape.ensures;
+  generator = refl;
+  line = refl;
+  labels = omega (arith, c.len-2.ensures, c.in_ok-lower_nodes.ensures.drawn, c.in_ok-fail.ensures.drawn, c.new-labels.ensures.len, ap (λ l. labels (block l)) c.as_slice.ensures);
+  body =
+      c.from_vec.ensures
+      ∙ emit_function (length c.args.code.now.params) c.args.code.now.free _ _ _ _ c.as_slice.result.now _ _ _ _ _ _ c.new-labels.ensures.len c.in_ok-fail.ensures.number c.in_ok-fail.ensures.drawn c.new-exits.ensures.items
+      (λ tail. c.in_ok-put_parameters.ensures.lines tail ∙ ap (λ n. copies flat.Parameter n 0 0 tail) c.len.ensures) (c.in_ok-put_parameters.ensures.many ∙ c.len.ensures) c.in_ok-put_free.ensures c.in_ok-lower_nodes.ensures.lines c.in_ok-put.ensures c.in_ok-mark.ensures c.in_ok-put-2.ensures
+      ∙ ap (λ l. function_lines (length c.args.code.now.params) c.args.code.now.free (block l)) c.as_slice.ensures;
+}

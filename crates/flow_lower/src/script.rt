@@ -1,0 +1,84 @@
+//! The flat code of a script.
+
+ghost use Rattle.std.specs.Prelude.{◌≡◌, ◌+◌, [], ◌∷◌, ◌++◌, ℕ, List, IfOk, OnOk, length};
+ghost use Rattle.flow_code.specs.declared.statement.Line.{Line as Flat};
+ghost use Rattle.flow_code.specs.declared.statement.Statement.TheVariants as flat;
+ghost use Rattle.flow_lower.specs.Correct.{Lowers, LowersCode, DoesTheSame};
+ghost use Rattle.flow_lower.specs.Lower.{copies};
+
+use crate::copies::share_shape;
+use crate::lowering::{fresh, lower_nodes, mark, put};
+use flow_code::{FlatFunction, FlatScript, Line, Statement};
+use node_tree::{NodeCode, NodeScript};
+use sqlite_items::Items;
+use std::alloc::{AllocError, Global};
+
+/// The flat code of a script, which does what the script does.
+pub fn lower(alloc: Global, script: &NodeScript) -> Result<FlatScript, AllocError>
+    ensures lowers { IfOk result (λ flat. Lowers script.now flat) }
+    ensures same { IfOk result (λ flat. DoesTheSame script.now flat) }
+{
+    let mut functions = Vec::new(alloc);
+    for code in script.codes.as_slice() {
+        functions.push(lower_code(alloc, code)?)?;
+    }
+    Ok(FlatScript {
+        name: script.name.share()?,
+        scripts: script.scripts,
+        functions: Items::from_vec(functions),
+    })
+}
+
+/// The function of a code.
+fn lower_code(alloc: Global, code: &NodeCode) -> Result<FlatFunction, AllocError>
+    ensures { IfOk result (λ f. LowersCode code.now f) }
+{
+    let mut out = Vec::new(alloc);
+    put_parameters(&mut out, code.params.len() as u64)?;
+    put_free(&mut out, code.free)?;
+    let mut labels = Vec::new(alloc);
+    let mut exits = Vec::new(alloc);
+    let fail = fresh(&mut labels)?;
+    lower_nodes(
+        alloc,
+        &mut out,
+        &mut labels,
+        code.body.as_slice(),
+        fail,
+        &mut exits,
+    )?;
+    put(&mut out, Statement::End)?;
+    mark(&mut out, fail)?;
+    put(&mut out, Statement::Fail)?;
+    Ok(FlatFunction {
+        scope: code.scope.share()?,
+        params: share_shape(alloc, &code.params)?,
+        generator: code.generator,
+        line: code.line,
+        labels: labels.len() as u64,
+        body: Items::from_vec(out),
+    })
+}
+
+/// The parameters go to the first registers.
+fn put_parameters(out: &mut Vec<Line>, count: u64) -> Result<(), AllocError>
+    requires { out.old.items ≡ [] }
+    ensures lines { OnOk result ((tail : List Flat) → out.new.items ++ tail ≡ copies flat.Parameter count 0 0 tail) }
+    ensures many { OnOk result (length out.new.items ≡ count) }
+{
+    for index in 0..count {
+        put(out, Statement::Parameter { to: index, index })?;
+    }
+    Ok(())
+}
+
+/// The free cells go to the registers behind those that are written so far.
+fn put_free(out: &mut Vec<Line>, count: u64) -> Result<(), AllocError>
+    ensures { OnOk result ((tail : List Flat) → out.new.items ++ tail ≡ out.old.items ++ copies flat.Free count (length out.old.items) 0 tail) }
+{
+    for index in 0..count {
+        let to = out.len() as u64;
+        put(out, Statement::Free { to, index })?;
+    }
+    Ok(())
+}
