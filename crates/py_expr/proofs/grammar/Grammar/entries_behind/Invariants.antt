@@ -1,0 +1,7 @@
+use Rattle.std.proofs.Common.{◌≡◌, ◌-◌}
+use Rattle.py_grammar.specs.Grammar.{Parts}
+use Rattle.py_grammar.specs.Parse.{tail_from, parse, entry}
+use Rattle.py_expr.proofs.grammar.Grammar.entries_behind.Given as goal
+
+abbrev pub invariant-loop-turn : goal.invariant-loop-turn
+invariant-loop-turn g l = tail_from (parse l.self.fuel) l.self.fuel Parts.entries (entry (parse l.self.fuel) l.self.fuel) l.depth l.self.fuel l.fn.list l.fn.tokens ≡ tail_from (parse l.self.fuel) l.self.fuel Parts.entries (entry (parse l.self.fuel) l.self.fuel) l.depth (l._turn-end - l._turn) l.list l.tokens
