@@ -1,6 +1,11 @@
-pub mod Operations
-pub mod Walks
-pub mod Sinks
-pub mod Programs
-pub mod Stretches
-pub mod Taking
+mod Registers
+mod Traces
+mod Arguments
+mod Rows
+mod Operations
+mod Modules
+mod Marks
+mod Sinks
+mod Walks
+mod Stretches
+mod Taking

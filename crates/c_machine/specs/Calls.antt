@@ -1,21 +1,24 @@
 -- What calls of a machine do.
-use Rattle.std.specs.Prelude.{◌≡◌, ◌≢◌, ℕ, zero, suc, ◌+◌, ◌-◌, ◌^◌, ◌<◌, min, List, [], ◌++◌, Option, Some, None, Result, Ok, Err}
+use Rattle.std.specs.Prelude.{◌≡◌, ℕ, zero, suc, ◌+◌, ◌-◌, ◌^◌, ◌<◌, min, List, ◌++◌, Option, Some, None, Result, Ok, Err, true}
 use Rattle.nu_base.specs.Outside.{Adds, AddsFront, Faulted}
 use Rattle.nu_run.specs.declared.End.{End}
 use Rattle.nu_run.specs.Runs.{Run, Going, Ended, printed_by}
 use Rattle.nu_run.specs.Steps.{Stepped, More, Halt}
-use Rattle.c_meaning.specs.declared.program.CProgram as program
-use Rattle.c_meaning.specs.Run.{State, World, step, printed_in}
+use Rattle.nu_calls.specs.Rules.{table_rules}
+use Rattle.c_meaning.specs.declared.code.Code.{Code}
+use Rattle.c_meaning.specs.State.{State, printed_in}
+use Rattle.c_meaning.specs.Step.{step}
 use Rattle.c_machine.specs.declared.ending.Stepped.{Stepped as Answer}
 use Rattle.c_machine.specs.declared.ending.Stepped.TheVariants as answer
 use Rattle.c_machine.specs.declared.ending.Trouble.{Trouble}
 use Rattle.c_machine.specs.declared.ending.Trouble.TheVariants as trouble
-use Rattle.c_machine.specs.Standing.{Standing, stands, printing}
+use Rattle.c_machine.specs.declared.execution.Execution.{Execution}
+use Rattle.c_machine.specs.Standing.{Outside, Standing, follows, stands, printing}
 use Rattle.c_machine.specs.Walks.{Leads}
 use Rattle.c_machine.specs.Machines.{Seen}
 
 -- the count of the output's faults after a call; no input is taken yet, so that its faults can't come
-abbrev pub CountsCall : ℕ → ℕ → Result Answer Trouble → Type 0
+abbrev pub CountsCall : {A : Type 0} → ℕ → ℕ → Result A Trouble → Type 0
 CountsCall old new (Ok answer) = new ≡ old
 CountsCall old new (Err trouble.Memory) = new ≡ old
 CountsCall old new (Err trouble.ReadFault) = ⊥
@@ -32,36 +35,39 @@ printed_after (More s) = printed_in s
 printed_after (Halt printed e) = printed
 
 -- the step is taken: what it prints was put, and the run stands where it leads
-pub record IsTaken (after : World → Stepped State) (held held' : Option (List ℕ)) (new : Standing) (a : Answer) : Type 0 where
+pub record IsTaken (after : Outside → Stepped State) (held held' : Option (List ℕ)) (new : Execution) (end : Option End) : Type 0 where
   pub piece : List ℕ
   pub adds : Adds held held' piece
-  pub leads : (w : World) → after w ≡ stands new (printing w piece)
-  pub answers : a ≡ answer_by new.end
-
--- the step prints this piece
-abbrev pub Prints : (World → Stepped State) → List ℕ → Type 0
-Prints after piece = (w : World) → printed_after (after w) ≡ w.printed ++ piece
+  pub leads : (w : Outside) → after w ≡ follows end new (printing w piece)
 
 -- a front of what the step prints was put
-pub record IsCut (after : World → Stepped State) (held held' : Option (List ℕ)) : Type 0 where
+pub record IsCut (after : Outside → Stepped State) (held held' : Option (List ℕ)) : Type 0 where
   pub piece : List ℕ
-  pub prints : Prints after piece
+  pub prints : (w : Outside) → printed_after (after w) ≡ w.printed ++ piece
   pub adds : AddsFront held held' piece
 
--- nothing was put, and the step prints something
-pub record IsShort (after : World → Stepped State) (held held' : Option (List ℕ)) : Type 0 where
-  pub piece : List ℕ
-  pub prints : Prints after piece
-  pub some : piece ≢ []
-  pub kept : held' ≡ held
+-- what came of a step, of which this is known whatever is outside; for want of memory nothing was put
+abbrev pub Comes : (Outside → Stepped State) → Option (List ℕ) → Option (List ℕ) → Execution → Result (Option End) Trouble → Type 0
+Comes after held held' new (Ok end) = IsTaken after held held' new end
+Comes after held held' new (Err trouble.Memory) = held' ≡ held
+Comes after held held' new (Err trouble.ReadFault) = ⊥
+Comes after held held' new (Err trouble.WriteFault) = IsCut after held held'
+Comes after held held' new (Err trouble.Failed) = ⊥
 
--- a call that takes one step, of which this is known in each world
-abbrev pub Takes : (World → Stepped State) → Option (List ℕ) → Option (List ℕ) → Standing → Result Answer Trouble → Type 0
-Takes after held held' new (Ok a) = IsTaken after held held' new a
-Takes after held held' new (Err trouble.Memory) = IsShort after held held'
+-- a call that takes one step
+abbrev pub Takes : (Outside → Stepped State) → Option (List ℕ) → Option (List ℕ) → Standing → Result Answer Trouble → Type 0
+Takes after held held' new (Ok a) = IsTaken after held held' new.execution new.end
+Takes after held held' new (Err trouble.Memory) = held' ≡ held
 Takes after held held' new (Err trouble.ReadFault) = ⊥
 Takes after held held' new (Err trouble.WriteFault) = IsCut after held held'
 Takes after held held' new (Err trouble.Failed) = ⊥
+
+-- a call that gave up: only how far the values went is not known
+pub record GaveUp (old new : Seen) : Type 0 where
+  pub code : new.code ≡ old.code
+  pub steps : new.steps ≡ old.steps
+  pub end : new.standing.end ≡ old.standing.end
+  pub failed : new.failed ≡ true
 
 -- a count of steps, after so many more; it stays at its last value
 abbrev pub counted : ℕ → ℕ → ℕ
@@ -77,12 +83,13 @@ Runs r held held' end (Err trouble.ReadFault) = ⊥
 Runs r held held' end (Err trouble.WriteFault) = AddsFront held held' (printed_by r)
 Runs r held held' end (Err trouble.Failed) = ⊥
 
--- of at most n steps t were taken, they printed this piece, and the machine stands where they lead
-pub record Walked (p : program.CProgram) (n t : ℕ) (piece : List ℕ) (old new : Seen) : Type 0 where
-  pub leads : (w : World) → Leads (step p) printed_in n t (stands old.standing w) (stands new.standing (printing w piece))
-  pub steps : new.steps ≡ counted old.steps t
+-- of at most n steps t were taken, they printed this piece, and the run stands where they lead
+pub record Walked (c : Code) (n t : ℕ) (piece : List ℕ) (old new : Standing) : Type 0 where
+  pub leads : (w : Outside) → Leads (step table_rules c) printed_in n t (stands old w) (stands new (printing w piece))
 
--- where a call leaves the machine: behind all its steps, or before the one that gave up
-abbrev pub Walks : program.CProgram → ℕ → Seen → Seen → Result Answer Trouble → Type 0
-Walks p n old new (Ok a) = (t : ℕ) × (piece : List ℕ) × Walked p n t piece old new
-Walks p n old new (Err e) = (t : ℕ) × (piece : List ℕ) × (t < n) × (new.standing.end ≡ None) × Walked p t t piece old new
+-- where a call leaves the machine: behind all its steps; or, where one gave up, it counts those before
+abbrev pub Walks : Code → ℕ → Seen → Seen → Result Answer Trouble → Type 0
+Walks c n old new (Ok a) = (t : ℕ) × (piece : List ℕ) × Walked c n t piece old.standing new.standing × (new.steps ≡ counted old.steps t)
+Walks c n old new (Err e) =
+    (t : ℕ) × (piece : List ℕ) × (before : Standing) × (t < n) × (before.end ≡ None) × Walked c t t piece old.standing before
+    × (new.steps ≡ counted old.steps t) × (new.standing.end ≡ None)

@@ -1,34 +1,47 @@
 -- What operations come to.
-use Rattle.std.specs.Prelude.{ℕ, List, ◌++◌, Option, Some, None, codes}
-use Rattle.std.specs.Fmt.{signed_decimal}
-use Rattle.nu_run.specs.declared.StopKind.TheVariants as stop
+use Rattle.std.specs.Prelude.{List, ◌∷◌, Option, Some, None, if◌then◌else◌, slice_get}
 use Rattle.nu_run.specs.Steps.{Stepped}
-use Rattle.c_meaning.specs.declared.rows.Value.{Value}
-use Rattle.c_meaning.specs.declared.rows.OpEnd.{OpEnd}
-use Rattle.c_meaning.specs.declared.rows.OpEnd.TheVariants as opend
-use Rattle.c_meaning.specs.Rows.{Handed, Worth, Named}
-use Rattle.c_meaning.specs.Run.{State, by_end, undefined}
-use Rattle.c_machine.specs.declared.operation.Effect.{Effect}
-use Rattle.c_machine.specs.declared.operation.Effect.TheVariants as effect
+use Rattle.nu_value.specs.declared.entries.Entry.{Entry}
+use Rattle.nu_value.specs.declared.object.Object.{Object}
+use Rattle.nu_value.specs.declared.object.Object.TheVariants as object
+use Rattle.nu_value.specs.declared.value.Value.{Value}
+use Rattle.op_rules.specs.declared.op.Op.{Op}
+use Rattle.op_rules.specs.declared.world.World.{World}
+use Rattle.op_rules.specs.Fits.{fits}
+use Rattle.op_rules.specs.Laws.{after}
+use Rattle.op_rules.specs.NameRows.{Answer}
+use Rattle.op_rules.specs.Table.{row}
+use Rattle.nu_calls.specs.Rules.{table_rules}
+use Rattle.nu_calls.specs.Surroundings.{scene}
+use Rattle.nu_calls.specs.Ends.{begun_by}
+use Rattle.c_meaning.specs.declared.code.Code.{Code}
+use Rattle.c_meaning.specs.State.{State, undefined}
+use Rattle.c_meaning.specs.Step as meaning
+use Rattle.c_meaning.specs.declared.code.Placed.{Placed}
+use Rattle.c_machine.specs.declared.execution.Execution.{Execution}
+use Rattle.c_machine.specs.declared.operation.Site.{Site}
 
--- the end of the operation, if all its arguments hand on something
-abbrev pub outcome : Effect → Option OpEnd
-outcome (effect.Give v) = Some (opend.Give v)
-outcome effect.PrintNone = Some (opend.Put (codes "None\n"))
-outcome (effect.PrintInt number) = Some (opend.Put (signed_decimal number ++ codes "\n"))
-outcome (effect.Stop kind) = Some (opend.Stop kind)
-outcome effect.Undefined = None
+abbrev pub site : Site → meaning.Site
+site x = record { to = x.to; line = x.line; goal = x.goal }
 
-abbrev pub by_outcome : State → ℕ → Option OpEnd → Stepped State
-by_outcome s to None = undefined s
-by_outcome s to (Some e) = by_end s to e
+-- the table's answer, if all arguments have values that fit
+abbrev pub answered : World → Op → Option (List Value) → Option Answer
+answered w o None = None
+answered w o (Some args) = if fits o w args then Some (row o w args) else None
 
--- the value that is handed on, if it is a value
-abbrev pub worth : Option Handed → Option Value
-worth None = None
-worth (Some (Worth v)) = Some v
-worth (Some (Named name)) = None
+abbrev pub after_answer : World → Option Answer → World
+after_answer w None = w
+after_answer w (Some answer) = after w answer
 
--- the end of an operation whose row doesn't speak of its arguments
-abbrev pub unfit : List Handed → OpEnd
-unfit handed = opend.Stop stop.Unbuilt
+abbrev pub by_answer : Code → State → meaning.Site → Option Answer → Stepped State
+by_answer c s x None = undefined s
+by_answer c s x (Some answer) = meaning.began table_rules c s x (begun_by c.scripts (scene s.around) answer)
+
+-- an object with an entry more, if it is an exception
+abbrev pub entry_in : Entry → Object → Object
+entry_in entry (object.Exception class args entries fields) = object.Exception class args (entry ∷ entries) fields
+entry_in entry other = other
+
+-- the next statement
+abbrev pub placed_for : Code → Execution → Option Placed
+placed_for c x = meaning.placed_in (slice_get c.bodies x.function) x.place

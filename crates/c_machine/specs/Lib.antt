@@ -1,6 +1,9 @@
-pub mod Bodies
-pub mod Effects
+pub mod Simple
+pub mod Values
+pub mod Light
+pub mod Starting
 pub mod Standing
+pub mod Effects
 pub mod Walks
 pub mod Machines
 pub mod Calls

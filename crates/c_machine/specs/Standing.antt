@@ -1,45 +1,39 @@
--- Where a run stands.
-use Rattle.std.specs.Prelude.{ℕ, ◌+◌, List, ◌++◌, Option, Some, None, slice_get, slice_set, replicate}
+-- Where a machine's run stands.
+use Rattle.std.specs.Prelude.{ℕ, List, [], ◌++◌, Option, Some, None}
 use Rattle.nu_run.specs.declared.End.{End}
 use Rattle.nu_run.specs.Steps.{Stepped, More, Halt}
-use Rattle.c_meaning.specs.declared.rows.Value.{Value}
-use Rattle.c_meaning.specs.Run.{Activation, World, State}
-use Rattle.c_machine.specs.declared.body.Body.{Body}
-use Rattle.c_machine.specs.Bodies.{registers_in}
+use Rattle.c_meaning.specs.declared.state.Purpose.TheVariants as purpose
+use Rattle.c_meaning.specs.State.{State}
+use Rattle.c_machine.specs.declared.execution.Execution.{Execution}
 
--- the function that runs, and the end, if there is one
-pub record Standing : Type 0 where
-  pub running : Activation
-  pub end : Option End
+-- what is outside of a machine: all that was printed, and the input that is left
+pub record Outside : Type 0 where
+  pub printed : List ℕ
+  pub input : List ℕ
 
--- the state, over what was printed and the input that is left
-abbrev pub state_of : Standing → World → State
-state_of s w = record { running = s.running; world = w }
-
--- the state or the end, over what was printed and the input that is left
-abbrev pub stands : Standing → World → Stepped State
-stands s w = by_end s.end
-  where
-    by_end : Option End → Stepped State
-    by_end None = More (state_of s w)
-    by_end (Some e) = Halt w.printed e
-
--- the world with more printed
-abbrev pub printing : World → List ℕ → World
+-- with more printed
+abbrev pub printing : Outside → List ℕ → Outside
 printing w text = record { printed = w.printed ++ text; input = w.input }
 
-abbrev pub first_standing : List Body → Standing
-first_standing bodies = record {
-  running = record { function = 0; place = 0; registers = replicate (registers_in (slice_get bodies 0)) None };
-  end = None;
+-- The state of the run. No operation asks a function or resumes a generator yet: the function of a module runs, alone.
+abbrev pub state_of : Execution → Outside → State
+state_of x w = record {
+  running = record { function = x.function; place = x.place; registers = x.registers; arguments = []; cells = []; pending = x.pending; purpose = purpose.Module };
+  below = [];
+  around = record { world = x.world; kept = []; input = w.input; frames = 1 };
+  uncaught = None;
+  printed = w.printed;
 }
 
--- a register has a value, and the next statement is next
-abbrev pub given : Standing → ℕ → Value → Standing
-given s to v = record {
-  running = record { function = s.running.function; place = s.running.place + 1; registers = slice_set s.running.registers to (Some v) };
-  end = s.end;
-}
+-- the state that follows, or the end
+abbrev pub follows : Option End → Execution → Outside → Stepped State
+follows None x w = More (state_of x w)
+follows (Some e) x w = Halt w.printed e
 
-abbrev pub ended : Standing → End → Standing
-ended s e = record { running = s.running; end = Some e }
+-- an execution, and the end of its run, if there is one
+pub record Standing : Type 0 where
+  pub execution : Execution
+  pub end : Option End
+
+abbrev pub stands : Standing → Outside → Stepped State
+stands s w = follows s.end s.execution w

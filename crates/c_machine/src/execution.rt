@@ -1,224 +1,269 @@
 //! Where a run stands, and what its statements do to it.
 
-ghost use Rattle.std.specs.Prelude.{◌≡◌, ◌≢◌, ◌+◌, ◌<◌, ◌^◌, ◌++◌, [], codes, None, IfOk, OnSome, OnOk, OnErr, string_bytes};
-ghost use Rattle.std.specs.Fmt.{signed_decimal};
-ghost use Rattle.std.specs.Option.{option_copied, is_some};
-ghost use Rattle.c_meaning.specs.declared.rows.OpEnd.TheVariants as opend;
-ghost use Rattle.c_meaning.specs.Run.{by_end, by_statement};
-ghost use Rattle.c_machine.specs.Effects.{by_outcome, outcome};
-ghost use Rattle.c_machine.specs.Bodies.{statement_at};
-ghost use Rattle.c_machine.specs.Standing.{first_standing, given, ended, state_of};
-ghost use Rattle.c_machine.specs.Calls.{Takes, CountsCall};
+ghost use Rattle.std.specs.Prelude.{◌≡◌, ◌+◌, ◌<◌, ◌^◌, None, Some, IfOk, IfSome, OnSome, OnOk, IsOk, Option, ℕ, option_copied, slice_get, slice_set, replicate, false, true};
+ghost use Rattle.nu_calls.specs.Rules.{table_rules};
+ghost use Rattle.nu_value.specs.declared.value.Value.TheVariants as value;
+ghost use Rattle.nu_value.specs.View.{is_text};
+ghost use Rattle.c_meaning.specs.declared.code.Code as code;
+ghost use Rattle.c_meaning.specs.Step as meaning;
+ghost use Rattle.c_meaning.specs.State as states;
+ghost use Rattle.c_machine.specs.Standing.{Outside, state_of, follows};
+ghost use Rattle.c_machine.specs.Light.{is_light_store};
+ghost use Rattle.c_machine.specs.Values.{takes_text, is_operated, is_object};
+ghost use Rattle.nu_calls.specs.Scripts.{report_function};
 
-use crate::body::Body;
-use crate::ending::{Stepped, Trouble};
-use crate::operation::{Effect, operate};
-use c_meaning::{CEnd, Statement, Value};
-use nu_base::{PutTrouble, Sink};
+use crate::traceback::uncaught_text;
+use c_meaning::{CEnd, Code, Operand, Placed, Statement, Stored};
 use nu_run::StopKind;
-use sqlite_items::Items;
+use nu_value::{Object, Slots, Value};
+use runtime_table::World;
 use std::alloc::{AllocError, Global};
-use std::marker::Model;
 
-/// A function that runs: its number, the number of its next statement, and its registers.
-#[derive(Drop)]
-struct Activation {
-    function: u32,
-    place: usize,
-    registers: Items<Option<Value>>,
-}
+/// The names of the script's module.
+pub(crate) const SCRIPT_NAMES: u64 = 39;
 
-/// The function that runs, and the end, if there is one.
+/// A function that runs: its number, the number of its next statement, its registers and the pending exception; and the
+/// world of operations.
 #[derive(Drop)]
 pub(crate) struct Execution {
-    running: Activation,
-    end: Option<CEnd>,
+    pub(crate) function: u32,
+    pub(crate) place: u64,
+    pub(crate) registers: Slots,
+    pub(crate) pending: Option<u64>,
+    pub(crate) world: World,
 }
 
-impl Model for Execution {
-    ghost use Rattle.c_machine.specs.Standing.{Standing};
+/// What an operand holds, if it has a value.
+#[inline]
+pub(crate) fn held(registers: &Slots, operand: &Operand) -> Result<Option<Value>, AllocError>
+    ensures same { IfOk result (λ v. v ≡ meaning.held registers.now operand.now) }
+    ensures sure { takes_text (meaning.held registers.now operand.now) ≡ false → IsOk result }
+{
+    match operand {
+        Operand::Register(register) => match registers.get(*register as usize) {
+            Some(Some(value)) => Ok(Some(value.copy()?)),
+            _ => Ok(None),
+        },
+        Operand::None => Ok(Some(Value::None)),
+        Operand::True => Ok(Some(Value::Bool(true))),
+        Operand::False => Ok(Some(Value::Bool(false))),
+        Operand::Int(number) => Ok(Some(Value::Int(*number))),
+        Operand::Str(text) => Ok(Some(Value::Str(text.share()?))),
+    }
+}
 
-    ghost Value = { Standing };
-
-    ghost view = { λ x. record {
-      running = record { function = x.running.function; place = x.running.place; registers = x.running.registers };
-      end = x.end;
-    } };
+// So many registers without a value.
+#[tactic(auto, using(crate::proofs::Registers::one_more))]
+fn no_values(alloc: Global, count: u64) -> Result<Slots, AllocError>
+    ensures { IfOk result (λ registers. registers ≡ replicate count None) }
+{
+    let mut registers = Slots::new(alloc);
+    for made in 0..count {
+        registers.push(None)?;
+    }
+    Ok(registers)
 }
 
 impl Execution {
-    /// The first function is about to run.
-    pub(crate) fn new(alloc: Global, bodies: &[Body]) -> Result<Execution, AllocError>
-        ensures { IfOk result (λ x. x ≡ first_standing bodies.now) }
-    {
-        let registers = match bodies.first() {
-            Some(body) => body.registers as usize,
-            None => 0,
-        };
-        Ok(Execution {
-            running: Activation {
-                function: 0,
-                place: 0,
-                registers: Items::from_vec(vec![in alloc; None; registers]?),
-            },
-            end: None,
-        })
-    }
-
-    pub(crate) fn end(&self) -> Option<&CEnd>
-        ensures { option_copied result ≡ self.now.end }
-    {
-        self.end.as_ref()
-    }
-
-    pub(crate) fn has_ended(&self) -> bool
-        ensures { result ≡ is_some self.now.end }
-    {
-        self.end.is_some()
-    }
-
-    /// Takes a step: the next statement. The text is a buffer.
-    pub(crate) fn step<O: Sink>(
-        &mut self,
-        bodies: &[Body],
-        text: &mut String,
-        out: &mut O,
-    ) -> Result<Stepped, Trouble>
-        requires { self.old.end ≡ None }
-        ensures takes { Takes (λ w. by_statement (state_of self.old w) (statement_at bodies.now self.old.running)) (O.held out.old) (O.held out.new) self.new result }
-        ensures count { CountsCall (O.faults out.old) (O.faults out.new) result }
-        ensures err { OnErr result (self.new ≡ self.old) }
-    {
-        match self.statement(bodies) {
-            Some(
-                Statement::Operation {
-                    to,
-                    op,
-                    arguments,
-                    ..
-                },
-            ) => {
-                let effect = operate(self.running.registers.as_slice(), *op, arguments.as_slice());
-                self.perform(effect, *to, text, out)
-            }
-            Some(Statement::End) => {
-                self.finish(CEnd::Done);
-                Ok(Stepped::Ended)
-            }
-            Some(Statement::Fail) | None => {
-                self.undefined();
-                Ok(Stepped::Ended)
-            }
-        }
-    }
-
-    // The next statement, if there is one.
-    fn statement<'a>(&self, bodies: &'a [Body]) -> Option<&'a Statement>
-        ensures value { option_copied result ≡ statement_at bodies.now self.now.running }
-        ensures small { OnSome result (self.now.running.place + 1 < 2 ^ 64) }
-    {
-        let statements = &bodies.get(self.running.function as usize)?.statements;
-        if self.running.place < statements.len() {
-            statements.get(self.running.place)
-        } else {
-            None
-        }
-    }
-
-    // An operation comes to its end.
-    fn perform<O: Sink>(
-        &mut self,
-        effect: Effect,
-        to: u64,
-        text: &mut String,
-        out: &mut O,
-    ) -> Result<Stepped, Trouble>
-        requires goes { self.old.end ≡ None }
-        requires small { self.old.running.place + 1 < 2 ^ 64 }
-        ensures takes { Takes (λ w. by_outcome (state_of self.old w) to (outcome effect)) (O.held out.old) (O.held out.new) self.new result }
-        ensures count { CountsCall (O.faults out.old) (O.faults out.new) result }
-        ensures err { OnErr result (self.new ≡ self.old) }
-    {
-        match effect {
-            Effect::Give(value) => {
-                self.give(to, value);
-                Ok(Stepped::More)
-            }
-            Effect::PrintNone => self.print(to, b"None\n", out),
-            Effect::PrintInt(number) => match write_line(text, number) {
-                Ok(()) => self.print(to, text.as_bytes(), out),
-                Err(_) => Err(Trouble::Memory),
-            },
-            Effect::Stop(kind) => {
-                self.finish(CEnd::Stopped(kind));
-                Ok(Stepped::Ended)
-            }
-            Effect::Undefined => {
-                self.undefined();
-                Ok(Stepped::Ended)
-            }
-        }
-    }
-
-    // Prints a text, in one piece, and stores None.
-    #[inline(never)]
-    fn print<O: Sink>(&mut self, to: u64, text: &[u8], out: &mut O) -> Result<Stepped, Trouble>
-        requires goes { self.old.end ≡ None }
-        requires small { self.old.running.place + 1 < 2 ^ 64 }
-        requires some { text.now ≢ [] }
-        ensures takes { Takes (λ w. by_end (state_of self.old w) to (opend.Put text.now)) (O.held out.old) (O.held out.new) self.new result }
-        ensures count { CountsCall (O.faults out.old) (O.faults out.new) result }
-        ensures err { OnErr result (self.new ≡ self.old) }
-    {
-        match out.put(text) {
-            Ok(()) => {
-                self.give(to, Value::None);
-                Ok(Stepped::More)
-            }
-            Err(PutTrouble::Failed) => Err(Trouble::WriteFault),
-            Err(PutTrouble::Memory) => Err(Trouble::Memory),
-        }
-    }
-
-    // A register gets a value, and the next statement is next.
-    #[inline(never)]
-    fn give(&mut self, to: u64, value: Value)
-        requires { self.old.running.place + 1 < 2 ^ 64 }
-        ensures { self.new ≡ given self.old to value }
-    {
-        let to = to as usize;
-        if to < self.running.registers.len() {
-            self.running.registers.set(to, Some(value));
-        }
-        self.running.place += 1;
-    }
-
-    // The run ends.
-    #[inline(never)]
-    fn finish(&mut self, end: CEnd)
-        ensures { self.new ≡ ended self.old end }
-    {
-        self.end = Some(end);
-    }
-
     // Nothing is said of this statement.
     #[cold]
     #[inline(never)]
-    fn undefined(&mut self)
-        ensures { self.new ≡ ended self.old (CEnd.Undefined self.old.running.function self.old.running.place) }
+    pub(crate) fn undefined(&self) -> Option<CEnd>
+        ensures { (w : Outside) → states.undefined (state_of self.now w) ≡ follows result self.now w }
     {
-        self.end = Some(CEnd::Undefined {
-            function: self.running.function,
-            statement: self.running.place as u64,
-        });
+        Some(CEnd::Undefined {
+            function: self.function,
+            statement: self.place,
+        })
     }
-}
 
-// The line that `print` puts for a number, in place of what the buffer had.
-#[inline(never)]
-fn write_line(line: &mut String, number: i128) -> Result<(), AllocError>
-    ensures { OnOk result (string_bytes line.new ≡ signed_decimal number ++ codes "\n") }
-{
-    line.clear();
-    write!(line, "{number}\n")
+    // A register has a value.
+    #[inline]
+    pub(crate) fn put(&mut self, to: u64, value: Value)
+        ensures { self.new ≡ record self.old { registers = slice_set self.old.registers to (Some value) } }
+    {
+        let to = to as usize;
+        if to < self.registers.len() {
+            self.registers.set(to, Some(value));
+        }
+    }
+
+    // A register gets a value, if there is one.
+    #[inline]
+    pub(crate) fn store(&mut self, to: u64, value: Option<Value>) -> Option<CEnd>
+        requires { self.old.place + 1 < 2 ^ 64 }
+        ensures { (w : Outside) → meaning.stores (state_of self.old w) to value ≡ follows result self.new w }
+    {
+        match value {
+            Some(value) => {
+                self.put(to, value);
+                self.place += 1;
+                None
+            }
+            None => self.undefined(),
+        }
+    }
+
+    #[inline]
+    pub(crate) fn jump(&mut self, goal: Option<u64>) -> Option<CEnd>
+        ensures { (w : Outside) → states.jumps (state_of self.old w) goal ≡ follows result self.new w }
+    {
+        match goal {
+            Some(place) => {
+                self.place = place;
+                None
+            }
+            None => self.undefined(),
+        }
+    }
+
+    #[inline(never)]
+    pub(crate) fn branch(&mut self, goal: Option<u64>, test: Option<Value>) -> Option<CEnd>
+        requires { self.old.place + 1 < 2 ^ 64 }
+        ensures { (w : Outside) → meaning.branches (state_of self.old w) goal test ≡ follows result self.new w }
+    {
+        match test {
+            Some(Value::Bool(true)) => self.jump(goal),
+            Some(Value::Bool(false)) => {
+                self.place += 1;
+                None
+            }
+            _ => self.undefined(),
+        }
+    }
+
+    // The pending exception is taken.
+    #[inline(never)]
+    fn take(&mut self, to: u64) -> Option<CEnd>
+        requires { self.old.place + 1 < 2 ^ 64 }
+        ensures { (w : Outside) → meaning.takes (state_of self.old w) to self.old.pending ≡ follows result self.new w }
+    {
+        match self.pending {
+            Some(exception) => {
+                self.pending = None;
+                self.put(to, Value::Obj(exception));
+                self.place += 1;
+                None
+            }
+            None => self.undefined(),
+        }
+    }
+
+    // An exception is pending, without an entry.
+    #[inline(never)]
+    pub(crate) fn again(&mut self, goal: Option<u64>, value: Option<Value>) -> Option<CEnd>
+        ensures { (w : Outside) → meaning.again (state_of self.old w) goal value ≡ follows result self.new w }
+    {
+        let Some(Value::Obj(exception)) = value else {
+            return self.undefined();
+        };
+        match self.world.heap.get(exception) {
+            Some(Object::Exception { .. }) => {
+                self.pending = Some(exception);
+                self.jump(goal)
+            }
+            _ => self.undefined(),
+        }
+    }
+
+    // The module of this number begins.
+    pub(crate) fn begin(
+        &mut self,
+        alloc: Global,
+        code: &Code,
+        number: u32,
+    ) -> Result<Option<CEnd>, AllocError>
+        ensures { IfOk result (λ end. (w : Outside) → meaning.module_begins table_rules code.now (state_of self.old w) number ≡ follows end self.new w) }
+    {
+        let Some(body) = code.bodies.get(number as usize) else {
+            return Ok(self.undefined());
+        };
+        let registers = no_values(alloc, body.registers)?;
+        self.function = number;
+        self.place = 0;
+        self.registers = registers;
+        self.pending = None;
+        self.world.module = if number < code.scripts {
+            SCRIPT_NAMES
+        } else {
+            self.world.builtins
+        };
+        Ok(None)
+    }
+
+    // The running module is over: the script follows that of the built-in text.
+    #[inline(never)]
+    pub(crate) fn finish(&mut self, alloc: Global, code: &Code) -> Result<Option<CEnd>, AllocError>
+        ensures sure { self.old.function ≡ 0 → IsOk result }
+        ensures over { IfOk result (λ end. (w : Outside) → meaning.module_over table_rules code.now (state_of self.old w) self.old.function ≡ follows end self.new w) }
+    {
+        if self.function == 0 {
+            Ok(Some(CEnd::Done))
+        } else {
+            self.begin(alloc, code, 0)
+        }
+    }
+
+    #[inline(never)]
+    pub(crate) fn give(
+        &mut self,
+        alloc: Global,
+        code: &Code,
+        value: &Operand,
+    ) -> Result<Option<CEnd>, AllocError>
+        ensures sure { self.old.function ≡ 0 → takes_text (meaning.held self.old.registers value.now) ≡ false → IsOk result }
+        ensures gives { IfOk result (λ end. (w : Outside) → meaning.returns table_rules code.now (state_of self.old w) (meaning.used (meaning.held self.old.registers value.now)) ≡ follows end self.new w) }
+    {
+        match held(&self.registers, value)? {
+            None | Some(Value::Unset) => Ok(self.undefined()),
+            Some(_) => self.finish(alloc, code),
+        }
+    }
+
+    // Whether the built-in names have a function for the text of an uncaught exception.
+    fn has_report(&self) -> bool
+        ensures { result ≡ is_object (report_function self.now.world) }
+    {
+        let Some(Object::Space(names)) = self.world.heap.get(self.world.builtins) else {
+            return false;
+        };
+        matches!(names.get("_nu_report"), Some(Value::Obj(_)))
+    }
+
+    // The pending exception leaves the module.
+    #[inline(never)]
+    #[tactic(auto, using(crate::proofs::Modules::asks_bound, crate::proofs::Modules::asks_none))]
+    pub(crate) fn fail(&mut self, alloc: Global, code: &Code) -> Result<Option<CEnd>, AllocError>
+        ensures { IfOk result (λ end. (w : Outside) → meaning.fails table_rules code.now (state_of self.old w) self.old.pending ≡ follows end self.new w) }
+    {
+        let Some(exception) = self.pending else {
+            return Ok(self.undefined());
+        };
+        if self.has_report() {
+            return Ok(Some(CEnd::Stopped(StopKind::Unbuilt)));
+        }
+        let text = uncaught_text(alloc, &code.file, &self.world.heap, exception)?;
+        Ok(Some(CEnd::Uncaught { text }))
+    }
+
+    #[inline(never)]
+    pub(crate) fn stored(&mut self, to: u64, what: &Stored) -> Result<Option<CEnd>, AllocError>
+        requires small { self.old.place + 1 < 2 ^ 64 }
+        requires other { is_operated what.now ≡ false }
+        ensures sure { is_light_store self.old.registers what.now ≡ true → IsOk result }
+        ensures stores { IfOk result (λ end. (code : code.Code) (goal : Option ℕ) (w : Outside) → meaning.stored_step table_rules code (state_of self.old w) to what.now goal ≡ follows end self.new w) }
+    {
+        match what {
+            Stored::Value(operand) => {
+                let value = held(&self.registers, operand)?;
+                Ok(self.store(to, value))
+            }
+            Stored::Unset => Ok(self.store(to, Some(Value::Unset))),
+            Stored::Caught => Ok(self.take(to)),
+            Stored::Parameter(_) | Stored::Free(_) | Stored::Load(_) | Stored::Sent { .. } => Ok(
+                self.undefined(),
+            ),
+            Stored::Operation { .. } => unreachable!(),
+        }
+    }
 }

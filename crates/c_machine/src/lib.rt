@@ -1,17 +1,21 @@
-//! Runs programs of the C text, step by step.
+//! Runs programs of the C text, statement by statement.
 //!
-//! A `Machine` keeps the bodies of a program's functions and an execution, which is the place where the run stands. Its
-//! step and its run are proved to be those of the program. The definitions stand in specs/: `Machines` (what contracts
-//! see), `Calls` (what a call does), and below them `Standing`, `Walks`, `Effects` and `Bodies`.
+//! A `Machine` keeps the code of a program and an execution, which is the place where the run stands. Its step and its run
+//! are proved to be those of the program. No operation asks a function or resumes a generator yet, so that only the
+//! functions of modules run. The definitions stand in specs/: `Machines` (what contracts see), `Calls` (what a call does),
+//! and below them `Standing`, `Walks`, `Effects`, `Starting`, `Values` and `Simple`.
 #![tactic(auto)]
 
-mod body;
 mod ending;
 mod execution;
 mod machine;
 mod operation;
+mod placing;
+mod starting;
+mod step;
 #[cfg(test)]
 mod tests;
+mod traceback;
 
 pub use ending::{Stepped, Trouble};
 pub use machine::{Machine, start};

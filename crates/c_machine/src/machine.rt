@@ -1,31 +1,36 @@
 //! Machines.
 
-ghost use Rattle.std.specs.Prelude.{◌≡◌, ◌≢◌, ◌↔◌, ℕ, List, None, IfOk, IfSome, OnOk, OnErr, IsTrue, false, true, is_err};
+ghost use Rattle.std.specs.Prelude.{◌≡◌, ◌≢◌, ◌↔◌, ℕ, List, None, IfOk, IfSome, OnOk, OnErr, IsOk, IsTrue, false, true, is_err};
 ghost use Rattle.std.specs.Option.{option_copied};
 ghost use Rattle.c_meaning.specs.declared.program.CProgram as program;
-ghost use Rattle.c_meaning.specs.Run.{World, step};
+ghost use Rattle.nu_calls.specs.Rules.{table_rules};
+ghost use Rattle.c_meaning.specs.Step.{step};
+ghost use Rattle.c_machine.specs.Effects.{placed_for};
+ghost use Rattle.c_machine.specs.Light.{is_light};
 ghost use Rattle.c_machine.specs.Standing.{state_of};
-ghost use Rattle.c_machine.specs.Machines.{Holds, IsFresh, answer_at_rest, run_from};
-ghost use Rattle.c_machine.specs.Calls.{CountsCall, Runs, answer_by, Takes, Walks, counted, printed_after};
+ghost use Rattle.c_machine.specs.Machines.{IsFresh, answer_at_rest, run_from};
+ghost use Rattle.c_machine.specs.Calls.{CountsCall, GaveUp, Runs, answer_by, Takes, Walks, counted};
 
-use crate::body::{Body, bodies_of};
 use crate::ending::{Stepped, Trouble};
 use crate::execution::Execution;
-use c_meaning::{CEnd, CProgram};
+use crate::starting::code_of;
+use c_meaning::{CEnd, CProgram, Code};
 use nu_base::{Memory, Sink, Source};
-use sqlite_items::Items;
+use nu_value::Items;
 use std::alloc::Global;
 use std::marker::Model;
 
 /// A machine that runs a program.
 #[derive(Drop)]
 pub struct Machine {
-    bodies: Items<Body>,
+    alloc: Global,
+    code: Code,
     execution: Execution,
+    end: Option<CEnd>,
     steps: u64,
     failed: bool,
-    // What `print` puts; only its room is kept.
-    text: String,
+    // The arguments of an operation; only its room is kept.
+    buffer: Items,
 }
 
 impl Model for Machine {
@@ -33,22 +38,24 @@ impl Model for Machine {
 
     ghost Value = { Seen };
 
-    ghost view = { λ m. record { bodies = m.bodies; standing = m.execution; steps = m.steps; failed = m.failed } };
+    ghost view = { λ m. record { code = m.code; standing = record { execution = m.execution; end = m.end }; steps = m.steps; failed = m.failed } };
 }
 
-/// A machine in a program's first state: its first function is about to run.
+/// A machine in a program's first state: its first module's function is about to run.
 pub fn start(alloc: Global, program: CProgram) -> Result<Machine, Memory>
     ensures { IfOk result (λ machine. IsFresh machine program) }
 {
-    let CProgram { functions, .. } = program;
-    let bodies = bodies_of(alloc, functions)?;
-    let execution = Execution::new(alloc, bodies.as_slice())?;
+    let (code, codes) = code_of(alloc, program)?;
+    let mut execution = Execution::new(alloc, codes)?;
+    let end = execution.begin_first(alloc, &code)?;
     Ok(Machine {
-        bodies,
+        alloc,
+        code,
         execution,
+        end,
         steps: 0,
         failed: false,
-        text: String::new(alloc),
+        buffer: Items::new(alloc),
     })
 }
 
@@ -62,10 +69,10 @@ impl Machine {
         out: &mut O,
     ) -> Result<Stepped, Trouble>
         // Where a step is left to take, it is that of the program, and the output gets what it prints.
-        ensures takes { (p : program.CProgram) → Holds self.old p → answer_at_rest self.old ≡ None
-            → Takes (λ w. step p (state_of self.old.standing w)) (O.held out.old) (O.held out.new) self.new.standing result }
+        ensures takes { answer_at_rest self.old ≡ None
+            → Takes (λ w. step table_rules self.old.code (state_of self.old.standing.execution w)) (O.held out.old) (O.held out.new) self.new.standing result }
         ensures steps { answer_at_rest self.old ≡ None → OnOk result (self.new.steps ≡ counted self.old.steps 1) }
-        ensures err { answer_at_rest self.old ≡ None → OnErr result (self.new ≡ record self.old { failed = true }) }
+        ensures err { answer_at_rest self.old ≡ None → OnErr result (GaveUp self.old self.new) }
 
         // Otherwise nothing changes.
         ensures rests { IfSome (answer_at_rest self.old) (λ answer. (result ≡ answer) × (self.new ≡ self.old) × (out.new ≡ out.old)) }
@@ -74,13 +81,13 @@ impl Machine {
         ensures answers { IfOk result (λ answer. answer ≡ answer_by self.new.standing.end) }
         ensures failed { (result ≡ Err Trouble.Failed) ↔ IsTrue self.old.failed }
         ensures fails { self.new.failed ≡ is_err result }
-        ensures bodies { self.new.bodies ≡ self.old.bodies }
+        ensures code { self.new.code ≡ self.old.code }
         ensures count { CountsCall (O.faults out.old) (O.faults out.new) result }
         ensures input { input.new ≡ input.old }
 
-        // A step that prints nothing takes no memory.
-        ensures sure { (p : program.CProgram) → Holds self.old p → (w : World) → printed_after (step p (state_of self.old.standing w)) ≡ w.printed
-            → result ≢ Err Trouble.Memory }
+        // A store, a jump, a branch and the script's return take no memory where no text is copied.
+        ensures sure { answer_at_rest self.old ≡ None → is_light self.old.standing.execution (placed_for self.old.code self.old.standing.execution) ≡ true
+            → IsOk result }
     {
         let _ = input;
         if let Some(answer) = self.at_rest() {
@@ -88,9 +95,11 @@ impl Machine {
         }
         match self
             .execution
-            .step(self.bodies.as_slice(), &mut self.text, out)
+            .step(self.alloc, &self.code, &mut self.buffer, out)
         {
-            Ok(stepped) => {
+            Ok(end) => {
+                let stepped = answer_by(&end);
+                self.end = end;
                 self.steps = self.steps.saturating_add(1);
                 Ok(stepped)
             }
@@ -109,11 +118,10 @@ impl Machine {
         out: &mut O,
     ) -> Result<Stepped, Trouble>
         // The output gets what the run of the program prints within these steps, or after a trouble a front of it.
-        ensures runs { (p : program.CProgram) → Holds self.old p → self.old.failed ≡ false → (left : List ℕ)
-            → Runs (run_from p self.old left steps) (O.held out.old) (O.held out.new) self.new.standing.end result }
+        ensures runs { self.old.failed ≡ false → (left : List ℕ) → Runs (run_from self.old left steps) (O.held out.old) (O.held out.new) self.new.standing.end result }
 
         // Where the machine stands then, and how many steps it counts.
-        ensures walks { (p : program.CProgram) → Holds self.old p → self.old.failed ≡ false → Walks p steps self.old self.new result }
+        ensures walks { self.old.failed ≡ false → Walks self.old.code steps self.old self.new result }
 
         // Otherwise nothing changes.
         ensures rests { IfSome (answer_at_rest self.old) (λ answer. (result ≡ answer) × (self.new ≡ self.old) × (out.new ≡ out.old)) }
@@ -122,7 +130,7 @@ impl Machine {
         ensures answers { IfOk result (λ answer. answer ≡ answer_by self.new.standing.end) }
         ensures failed { (result ≡ Err Trouble.Failed) ↔ IsTrue self.old.failed }
         ensures fails { self.new.failed ≡ is_err result }
-        ensures bodies { self.new.bodies ≡ self.old.bodies }
+        ensures code { self.new.code ≡ self.old.code }
         ensures count { CountsCall (O.faults out.old) (O.faults out.new) result }
         ensures input { input.new ≡ input.old }
     {
@@ -146,7 +154,7 @@ impl Machine {
         if self.failed {
             return Some(Err(Trouble::Failed));
         }
-        if self.execution.has_ended() {
+        if self.end.is_some() {
             return Some(Ok(Stepped::Ended));
         }
         None
@@ -163,6 +171,16 @@ impl Machine {
     pub fn end(&self) -> Option<&CEnd>
         ensures { option_copied result ≡ self.now.standing.end }
     {
-        self.execution.end()
+        self.end.as_ref()
+    }
+}
+
+// Whether a run goes on that has this end or none.
+fn answer_by(end: &Option<CEnd>) -> Stepped
+    ensures { result ≡ answer_by end.now }
+{
+    match end {
+        None => Stepped::More,
+        Some(_) => Stepped::Ended,
     }
 }

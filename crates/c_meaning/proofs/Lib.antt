@@ -1,1 +1,2 @@
-pub mod Monotone
+pub mod Grows
+mod Examples

@@ -1,5 +1,7 @@
 pub mod Text
-pub mod Rows
+pub mod Written
+pub mod Code
+pub mod State
+pub mod Step
 pub mod Run
-pub mod Printing
 pub mod Laws

@@ -1,17 +1,21 @@
 //! What the written C text is and does: its programs, how they are spelled, and how they run, statement by statement.
 //!
-//! The definitions stand in specs/: `Text` (the spelling), `Rows` (the operations), `Run` (states, steps and runs),
-//! `Printing` (the programs of this stage, which print numbers).
+//! The definitions stand in specs/: `Text` (the spelling), `Written` (which programs have a text), `Code` (what runs of a
+//! program), `State` (where a run stands), `Step` (what each statement does), `Run` (starts and runs).
 #![tactic(auto)]
 
+mod code;
+mod names;
 mod program;
-mod rows;
+mod state;
 
 ghost use Rattle.c_meaning.specs.Laws.{RunsAreMonotone};
 
+pub use code::{Body, Code, Placed};
+pub use names::BUILTIN_NAMES;
 pub use nu_run::End as CEnd;
-pub use program::{Argument, CProgram, Function, Header, Line, Op, Statement};
-pub use rows::{OpEnd, Value};
+pub use program::{Argument, CProgram, Function, Line, Operand, Statement, Stored};
+pub use state::{Activation, Kept, Purpose, Told, Uncaught};
 
 /// A larger bound prints no less, and an end stays.
 pub fn runs_are_monotone()

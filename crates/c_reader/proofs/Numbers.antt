@@ -6,11 +6,11 @@ use Rattle.std.specs.Int.{w128}
 use Rattle.std.proofs.lemmas.Int.{to_z-of_z}
 use Rattle.nu_text.specs.Pieces.{before}
 use Rattle.nu_text.specs.Decimals.{starts_digit, ends_decimal, DecimalStands}
-use Rattle.c_meaning.specs.Printing.{IsInt}
-use Rattle.c_reader.specs.Pieces.{NumberStands, IntStands}
+use Rattle.c_meaning.specs.Written.{IsInt}
+use Rattle.c_reader.specs.Pieces.{BareStands, NumberStands, FieldStands, IntStands}
 use Rattle.nu_text.proofs.Decimals.{IsShort, decimal_both, signed_both, ends_there, decimal_starts}
 
-wide : (n : ℕ) → n < 2 ^ 128 → n < 10 ^ 64
+pub wide : (n : ℕ) → n < 2 ^ 128 → n < 10 ^ 64
 wide n h = omega (arith, h)
 
 -- no other number stands there
@@ -62,3 +62,24 @@ no_minus_zero closing digits x size ends s empty text e z rest stands =
 pub int_fits : (z : ℤ) → IsInt z → to_z w128 (of_z w128 z) ≡ z
 int_fits (pos n) h = to_z-of_z w128 (pos n) (record { sfits = h })
 int_fits (negsuc n) h = to_z-of_z w128 (negsuc n) (record { sfits = h })
+
+-- what follows a number that was read
+pub number_behind : (limit : ℕ) (closing text behind rest : List ℕ) (value n : ℕ) → limit ≤ 2 ^ 64 → ends_decimal closing ≡ true → BareStands limit text value behind → NumberStands limit closing text n rest → behind ≡ closing ++ rest
+number_behind limit closing text behind rest value n small ends b s =
+    let fits = b.fits in
+    let more = s.fits in
+    (decimal_both value n behind (closing ++ rest) (wide value (omega (arith, fits, small))) (wide n (omega (arith, more, small))) b.ends (ends_there closing rest ends) (sym b.spelled ∙ s.spelled)).1
+
+pub mapped_none : {A : Type 0} (o : Option A) (P Q : Type 0) → (P → Q) → IfNone o P → IfNone o Q
+mapped_none None P Q f h = f h
+mapped_none (Some x) P Q f h = tt
+
+pub no_field : (limit : ℕ) (opening closing text behind : List ℕ) (o : Option (ℕ × Bor (List ℕ))) → text ≡ opening ++ behind → IfNone o ((n : ℕ) (rest : List ℕ) → NumberStands limit closing behind n rest → ⊥)
+    → IfNone o ((n : ℕ) (rest : List ℕ) → FieldStands limit opening closing text n rest → ⊥)
+no_field limit opening closing text behind o e h =
+    mapped_none o ((n : ℕ) (rest : List ℕ) → NumberStands limit closing behind n rest → ⊥) ((n : ℕ) (rest : List ℕ) → FieldStands limit opening closing text n rest → ⊥)
+    (λ none n rest s. none n rest (record { fits = s.fits; spelled = same_rest opening behind (decimal n ++ (closing ++ rest)) (sym e ∙ s.spelled) })) h
+
+pub field_both : (limit : ℕ) (opening closing text x y : List ℕ) (m n : ℕ) → limit ≤ 2 ^ 128 → ends_decimal closing ≡ true → FieldStands limit opening closing text m x → FieldStands limit opening closing text n y → (m ≡ n) × (x ≡ y)
+field_both limit opening closing text x y m n small ends s t =
+    number_both limit closing (decimal m ++ (closing ++ x)) x y m n small ends (record { fits = s.fits; spelled = refl }) (record { fits = t.fits; spelled = same_rest opening (decimal m ++ (closing ++ x)) (decimal n ++ (closing ++ y)) (sym s.spelled ∙ t.spelled) })

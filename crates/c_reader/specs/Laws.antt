@@ -1,7 +1,7 @@
 -- The laws of the text relation.
 use Rattle.std.specs.Prelude.{◌≡◌, ℕ, List}
 use Rattle.c_meaning.specs.declared.program.CProgram as program
-use Rattle.c_meaning.specs.Printing.{IsText}
+use Rattle.c_meaning.specs.Written.{IsText}
 
 -- a text is that of one program at most
 abbrev pub OneProgram : Type 0

@@ -34,3 +34,21 @@ impl<T: Drop> From<AllocFailed<T>> for ReadEnd {
         ReadEnd::Memory
     }
 }
+
+/// Why a part isn't read.
+#[derive(Clone, Copy)]
+pub(crate) enum Miss {
+    /// In the line that begins where so many bytes are left no program can stand.
+    NotC { left: usize },
+    Memory,
+}
+
+impl From<AllocError> for Miss {
+    ghost use Rattle.c_reader.specs.declared.end.Miss.TheVariants as miss;
+
+    ghost from_gives = { λ _ e. e ≡ miss.Memory };
+
+    fn from(_e: AllocError) -> Miss {
+        Miss::Memory
+    }
+}

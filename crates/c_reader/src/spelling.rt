@@ -2,7 +2,7 @@
 
 ghost use Rattle.std.specs.Prelude.{◌≡◌, ℕ, ◌<◌, ◌++◌, List, IfOk, IfSome, IfNone};
 ghost use Rattle.nu_text.specs.Strings.{stands_plain, string_byte};
-ghost use Rattle.c_reader.specs.Pieces.{StringStands};
+ghost use Rattle.c_reader.specs.Pieces.{QuotedStands, StringStands};
 
 use crate::number::after;
 use nu_text::RcStr;
@@ -41,12 +41,12 @@ fn spelled_byte(text: &[u8]) -> Option<(u8, &[u8])>
     }
 }
 
-/// The text of which a string stands at the front, and what follows.
-pub(crate) fn string(alloc: Global, text: &[u8]) -> Result<Option<(RcStr, &[u8])>, AllocError>
+/// The bytes of which a string stands at the front, and what follows.
+pub(crate) fn quoted(alloc: Global, text: &[u8]) -> Result<Option<(Vec<u8>, &[u8])>, AllocError>
     ensures some { IfOk result
-        (λ read. IfSome read (λ found. StringStands text.now found.0 found.1.now)) }
+        (λ read. IfSome read (λ found. QuotedStands text.now found.0.items found.1.now)) }
     ensures none { IfOk result
-        (λ read. IfNone read ((bytes rest : List ℕ) → StringStands text.now bytes rest → ⊥)) }
+        (λ read. IfNone read ((bytes rest : List ℕ) → QuotedStands text.now bytes rest → ⊥)) }
 {
     let Some(mut rest) = after(text, b"\"") else {
         return Ok(None);
@@ -57,6 +57,19 @@ pub(crate) fn string(alloc: Global, text: &[u8]) -> Result<Option<(RcStr, &[u8])
         rest = behind;
     }
     let Some(rest) = after(rest, b"\"") else {
+        return Ok(None);
+    };
+    Ok(Some((bytes, rest)))
+}
+
+/// The text of which a string stands at the front, and what follows.
+pub(crate) fn string(alloc: Global, text: &[u8]) -> Result<Option<(RcStr, &[u8])>, AllocError>
+    ensures some { IfOk result
+        (λ read. IfSome read (λ found. StringStands text.now found.0 found.1.now)) }
+    ensures none { IfOk result
+        (λ read. IfNone read ((bytes rest : List ℕ) → StringStands text.now bytes rest → ⊥)) }
+{
+    let Some((bytes, rest)) = quoted(alloc, text)? else {
         return Ok(None);
     };
     let Ok(name) = str::from_utf8(&bytes) else {

@@ -1,9 +1,9 @@
--- A step only adds to what was printed.
-use Rattle.std.proofs.Common.{ℕ, ◌≤◌, List, [], ◌∷◌, ◌++◌, Option, Some, None, Bool, true, false, slice_get, refl, if◌then◌else◌}
+-- A step only adds to what was printed; and when a run of functions is the same as another.
+use Rattle.std.proofs.Common.{◌≡◌, ℕ, ◌≤◌, List, [], ◌∷◌, ◌++◌, Option, Some, None, Bool, true, false, slice_get, refl, sym, ◌∙◌, subst, if◌then◌else◌}
 use Rattle.nu_run.specs.declared.End.TheVariants as end
-use Rattle.nu_run.specs.Runs.{IsPrefix, IsMonotone, Below}
+use Rattle.nu_run.specs.Runs.{Run, Going, Ended, IsPrefix, IsMonotone, IsDefined, Below, Same}
 use Rattle.nu_run.specs.Steps.{Stepped, More, Halt, on_step, run, Grew}
-use Rattle.nu_run.proofs.Runs.{prefix_refl, prefix_more, prefix_trans, longer}
+use Rattle.nu_run.proofs.Runs.{Tracks, same_from, prefix_refl, prefix_more, prefix_trans, longer}
 use Rattle.nu_value.specs.declared.object.Object.{Object}
 use Rattle.nu_value.specs.declared.object.Object.TheVariants as object
 use Rattle.nu_value.specs.declared.value.Value.{Value}
@@ -164,3 +164,19 @@ stepped_monotone m (Halt out e) i n le = refl
 
 pub machine_monotone : {L : Type 0} (m : Functions L) (input : List ℕ) → IsMonotone (machine_run m input)
 machine_monotone m input i n le = stepped_monotone m (begun m input) i n le
+
+-- a machine that follows a run that is defined is the same, also where it halts at once
+same_of : {S : Type 0} (step : S → Stepped S) (printed : S → List ℕ) (grows : (s : S) → Grew printed (printed s) (step s)) (P : ℕ → Run) (x : Stepped S) → IsDefined P → ((n : ℕ) → Tracks n (P n) (λ j. on_step x (run step printed j))) → Same P (λ j. on_step x (run step printed j))
+same_of step printed grows P (More s) d t = same_from step printed grows P s d t
+same_of step printed grows P (Halt out e) d t = record {
+  there = λ n. (0, subst (λ r. Below r (Ended out e)) (sym (is n (P n) refl)) refl);
+  back = λ n. (0, is 0 (P 0) refl);
+}
+  where
+    is : (n : ℕ) (r : Run) → P n ≡ r → P n ≡ Ended out e
+    is n (Going o) h = let a = (t n).goes_on o h in cc
+    is n (Ended o x) h = let a = (t n).ends o x h (d n o x h) in h ∙ sym a.1
+
+-- functions whose run follows one that is defined do the same
+pub machine_same : {L : Type 0} (m : Functions L) (input : List ℕ) (P : ℕ → Run) → IsDefined P → ((n : ℕ) → Tracks n (P n) (machine_run m input)) → Same P (machine_run m input)
+machine_same m input P d t = same_of (step m) printed (step_grows m) P (begun m input) d t

@@ -34,10 +34,11 @@ pub record Frame : Type 0 where
   pub registers : ℕ → Option Value
 
 -- an activation that waits for what it began, or a paused generator: where it goes on, with the register of the value,
--- its line and fail label
+-- its line and fail label, and the exception that is pending all the while; of a paused generator none is
 pub record Waiting (L : Type 0) : Type 0 where
   pub code : ℕ
   pub frame : Frame
+  pub pending : Option ℕ
   pub to : ℕ
   pub line : ℕ
   pub fail : ℕ
@@ -125,7 +126,7 @@ having (Some x) other go = go x
 module _ {L : Type 0} (m : Functions L) where
   -- an activation goes on after what it began has ended so
   abbrev pub settles : Waiting L → Stack L → Surroundings (Waiting L) → List ℕ → Result → Stepped (State L)
-  settles w below a out (Gives v) = More (at w.code w.next (write w.frame w.to v) None below a out)
+  settles w below a out (Gives v) = More (at w.code w.next (write w.frame w.to v) w.pending below a out)
   settles w below a out (Raises e) =
       More (at w.code (m.label w.code w.fail) (write w.frame w.to value.Unset) (Some e) below (with_scene a (at_line m.scripts (scene a) w.frame.code w.line e)) out)
   settles w below a out (Stops kind) = Halt out (end.Stopped kind)
@@ -240,8 +241,8 @@ module _ {L : Type 0} (m : Functions L) where
   again s l (value.Obj e) = pending_exception s l e (slice_get s.around.world.heap e)
   again s l v = undefined s.out
 
-  abbrev pub waits : State L → ℕ → ℕ → ℕ → L → Waiting L
-  waits s to line fail next = record { code = s.code; frame = s.frame; to = to; line = line; fail = fail; next = next }
+  abbrev pub waits : State L → Option ℕ → ℕ → ℕ → ℕ → L → Waiting L
+  waits s pending to line fail next = record { code = s.code; frame = s.frame; pending = pending; to = to; line = line; fail = fail; next = next }
 
   -- a statement, with the place behind it
   abbrev pub acts : State L → L → Statement → Stepped (State L)
@@ -250,7 +251,7 @@ module _ {L : Type 0} (m : Functions L) where
   acts s next (flat.Parameter to i) = having (slice_get s.frame.given i) (undefined s.out) (λ v. on s next (write s.frame to v))
   acts s next (flat.Free to i) = having (slice_get s.frame.cells i) (undefined s.out) (λ v. on s next (write s.frame to v))
   acts s next (flat.Do to line o args fail) =
-      having (values s.frame args) (undefined s.out) (λ vs. operates (waits s to line fail next) s.stack s.around s.out o vs)
+      having (values s.frame args) (undefined s.out) (λ vs. operates (waits s s.pending to line fail next) s.stack s.around s.out o vs)
   acts s next (flat.Goto l) = on s (m.label s.code l) s.frame
   acts s next (flat.Branch test l) = using (held s.frame test) (undefined s.out) (branches s next l)
   acts s next (flat.Caught to) =
@@ -260,7 +261,7 @@ module _ {L : Type 0} (m : Functions L) where
   acts s next flat.End = body_ended s.frame.code s.stack s.around s.out (Next value.None)
   acts s next flat.Fail = having s.pending (undefined s.out) (λ e. body_ended s.frame.code s.stack s.around s.out (Raised e))
   acts s next (flat.Yield to line a fail) =
-      using (held s.frame a) (undefined s.out) (λ v. paused (waits s to line fail next) v s.stack s.around s.out)
+      using (held s.frame a) (undefined s.out) (λ v. paused (waits s None to line fail next) v s.stack s.around s.out)
 
   abbrev pub acts_at : State L → Option (Statement × L) → Stepped (State L)
   acts_at s None = undefined s.out

@@ -6,6 +6,8 @@ use Rattle.nu_run.specs.Steps.{Stepped, Halt, on_step, run}
 use Rattle.nu_value.specs.declared.header.Header.{Header}
 use Rattle.nu_calls.specs.Surroundings.{Surroundings}
 use Rattle.nu_calls.specs.Rules.{Rules}
+use Rattle.flow_code.specs.declared.cut.CutFunction.{CutFunction}
+use Rattle.flow_code.specs.declared.cut.CutScript.{CutScript}
 use Rattle.flow_code.specs.declared.function.FlatFunction.{FlatFunction}
 use Rattle.flow_code.specs.declared.function.FlatScript.{FlatScript}
 use Rattle.flow_code.specs.declared.statement.Line.{Line}
@@ -67,3 +69,21 @@ machine_run m input n = on_step (begun m input) (run (step m) printed n)
 
 abbrev pub flat_run : Rules → FlatScript → List ℕ → ℕ → Run
 flat_run rules script input = machine_run (functions rules script) input
+
+abbrev pub cut_lines_of : Option CutFunction → List Line
+cut_lines_of (Some f) = f.body
+cut_lines_of None = []
+
+abbrev pub cut_is_there : Option CutFunction → Bool
+cut_is_there (Some f) = true
+cut_is_there None = false
+
+abbrev pub cut_header : CutFunction → Header
+cut_header f = record { scope = f.scope; params = f.params; generator = f.generator; line = f.line }
+
+abbrev pub cut_functions : Rules → CutScript → Functions (List Line)
+cut_functions rules script = with_lines rules script.scripts script.name (map cut_header script.functions) (λ c. cut_is_there (slice_get script.functions c)) (λ c. cut_lines_of (slice_get script.functions c))
+
+-- the run of cut code over an input
+abbrev pub cut_run : Rules → CutScript → List ℕ → ℕ → Run
+cut_run rules script input = machine_run (cut_functions rules script) input

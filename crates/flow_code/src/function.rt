@@ -16,6 +16,8 @@ pub struct FlatFunction {
     pub line: u32,
     /// Labels are numbered below this.
     pub labels: u64,
+    /// How many registers are declared: those numbered below this.
+    pub registers: u64,
     pub body: Items<Line>,
 }
 

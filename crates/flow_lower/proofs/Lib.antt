@@ -10,3 +10,8 @@ mod Opening
 mod Scripts
 mod Emitted
 mod Takes
+mod Counted
+mod Kept
+mod Greatest
+mod WellFormed
+mod Example

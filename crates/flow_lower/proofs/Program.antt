@@ -3,8 +3,8 @@ use Rattle.std.proofs.Common.{◌≡◌, ℕ, zero, suc, ◌≤◌, List, [], �
 use Rattle.nu_run.specs.declared.End as run_end
 use Rattle.nu_run.specs.declared.End.TheVariants as end
 use Rattle.nu_run.specs.Runs as runs
-use Rattle.nu_run.specs.Steps.{Stepped, More, Halt, on_step, run, Grew}
-use Rattle.nu_run.proofs.Runs.{Tracks, same_from, goes_comes, goes_some}
+use Rattle.nu_run.specs.Steps.{Stepped, More, Halt, on_step}
+use Rattle.nu_run.proofs.Runs.{Tracks, goes_comes, goes_some}
 use Rattle.nu_value.specs.declared.value.Value.{Value}
 use Rattle.nu_value.specs.declared.value.Value.TheVariants as value
 use Rattle.op_rules.specs.declared.end.After.{After}
@@ -22,24 +22,12 @@ use Rattle.node_tree.specs.Nodes as node
 use Rattle.node_tree.specs.Run.{blank}
 use Rattle.flow_code.specs.declared.statement.Line.{Line}
 use Rattle.flow_code.specs.Machine as machine
-use Rattle.flow_code.specs.Run.{begun, machine_run}
-use Rattle.flow_code.proofs.Grows.{step_grows}
+use Rattle.flow_code.specs.Run.{machine_run}
+use Rattle.flow_code.proofs.Grows.{machine_same}
 use Rattle.flow_lower.proofs.Points.{code_of, top}
-use Rattle.flow_lower.proofs.Ran.{NodeState, Machine, Stack, Code, mm, lang, row_of, fw, mstep, exec, C, G, Reaches, reaches_after, reaches_goes, go_at}
+use Rattle.flow_lower.proofs.Ran.{NodeState, Machine, Stack, Code, mm, lang, row_of, fw, exec, C, G, Reaches, reaches_after, reaches_goes, go_at}
 use Rattle.flow_lower.proofs.Bodies.{Stands, BodyAt, body_row}
 use Rattle.flow_lower.proofs.Forms.{body_runs, bodies_run}
-
--- a machine that follows a run that is defined is the same, also where it halts at once
-same_of : {S : Type 0} (step : S → Stepped S) (printed : S → List ℕ) (grows : (s : S) → Grew printed (printed s) (step s)) (P : ℕ → runs.Run) (x : Stepped S) → runs.IsDefined P → ((n : ℕ) → Tracks n (P n) (λ j. on_step x (run step printed j))) → runs.Same P (λ j. on_step x (run step printed j))
-same_of step printed grows P (More s) d t = same_from step printed grows P s d t
-same_of step printed grows P (Halt out e) d t = record {
-  there = λ n. (0, subst (λ r. runs.Below r (runs.Ended out e)) (sym (is n (P n) refl)) refl);
-  back = λ n. (0, is 0 (P 0) refl);
-}
-  where
-    is : (n : ℕ) (r : runs.Run) → P n ≡ r → P n ≡ runs.Ended out e
-    is n (runs.Going o) h = let a = (t n).goes_on o h in cc
-    is n (runs.Ended o x) h = let a = (t n).ends o x h (d n o x h) in h ∙ sym a.1
 
 module _ (q : Code) (stands : Stands q) where
   abbrev pub prog : Program node.Frame node.Item
@@ -226,5 +214,5 @@ module _ (q : Code) (stands : Stands q) where
 
   pub program_same : (input : List ℕ) → runs.IsDefined (program_run prog q.file input) → runs.Same (program_run prog q.file input) (machine_run (mm q) input)
   program_same input d =
-      same_of (mstep q) machine.printed (step_grows (mm q)) (program_run prog q.file input) (begun (mm q) input) d
+      machine_same (mm q) input (program_run prog q.file input) d
       (λ n. tracks_of n _ _ (whole_ran n input (nat_lt 0 q.scripts) (nat_lt q.scripts (length q.headers))))

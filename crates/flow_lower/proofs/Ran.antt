@@ -37,7 +37,7 @@ abbrev pub flat_frame : node.Frame → machine.Frame
 flat_frame f = record { code = f.code; given = f.given; cells = f.cells; registers = f.temps }
 
 abbrev pub waiting : ℕ → node.Frame → Point → Waiting
-waiting c f pt = record { code = c; frame = flat_frame f; to = pt.to; line = pt.line; fail = pt.fail; next = pt.next }
+waiting c f pt = record { code = c; frame = flat_frame f; pending = None; to = pt.to; line = pt.line; fail = pt.fail; next = pt.next }
 
 -- a map over what paused generators keep
 abbrev pub map_kept : {K J : Type 0} → (K → J) → List (Option K) → List (Option J)

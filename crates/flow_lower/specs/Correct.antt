@@ -8,16 +8,19 @@ use Rattle.node_tree.specs.Run.{node_run}
 use Rattle.node_tree.specs.Tree.{block}
 use Rattle.flow_code.specs.declared.function.FlatFunction.{FlatFunction}
 use Rattle.flow_code.specs.declared.function.FlatScript.{FlatScript}
+use Rattle.flow_code.specs.Registers.{registers, above}
 use Rattle.flow_code.specs.Run.{flat_run}
 use Rattle.flow_lower.specs.Lower.{labels, code_lines}
 
--- a function is that of a code: the same name, parameters, kind and first line, and the code's lines
+-- a function is that of a code: the same name, parameters, kind and first line, and the code's lines, with as many
+-- registers as stand in them
 pub record LowersCode (code : NodeCode) (f : FlatFunction) : Type 0 where
   pub scope : f.scope ≡ code.scope
   pub params : f.params ≡ code.params
   pub generator : f.generator ≡ code.generator
   pub line : f.line ≡ code.line
   pub labels : f.labels ≡ 1 + labels (block code.body)
+  pub registers : f.registers ≡ above (registers f.body)
   pub body : f.body ≡ code_lines code
 
 -- one function for each code

@@ -1,3 +1,4 @@
 pub mod Lower
 pub mod Correct
+pub mod Kept
 pub mod Laws

@@ -3,7 +3,10 @@
 
 mod copies;
 mod lowering;
+mod registers;
 mod script;
+#[cfg(test)]
+mod tests;
 
 ghost use Rattle.flow_lower.specs.Laws.{LoweredDoesTheSame};
 

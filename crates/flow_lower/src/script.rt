@@ -3,20 +3,31 @@
 ghost use Rattle.std.specs.Prelude.{◌≡◌, ◌+◌, [], ◌∷◌, ◌++◌, ℕ, List, IfOk, OnOk, length};
 ghost use Rattle.flow_code.specs.declared.statement.Line.{Line as Flat};
 ghost use Rattle.flow_code.specs.declared.statement.Statement.TheVariants as flat;
+ghost use Rattle.std.specs.List.{AllByRecursion};
+ghost use Rattle.flow_code.specs.Labels.{LabelsThere};
+ghost use Rattle.flow_code.specs.WellFormed.{WellFormed};
 ghost use Rattle.flow_lower.specs.Correct.{Lowers, LowersCode, DoesTheSame};
+ghost use Rattle.flow_lower.specs.Kept.{KeepsEach};
 ghost use Rattle.flow_lower.specs.Lower.{copies};
 
 use crate::copies::share_shape;
 use crate::lowering::{fresh, lower_nodes, mark, put};
+use crate::registers::count_registers;
 use flow_code::{FlatFunction, FlatScript, Line, Statement};
 use node_tree::{NodeCode, NodeScript};
 use sqlite_items::Items;
 use std::alloc::{AllocError, Global};
 
 /// The flat code of a script, which does what the script does.
+///
+/// In each function no label stands twice, each label to which a statement leads stands, and each register is declared. Its
+/// operations, with their names, and its constants are those of the code.
 pub fn lower(alloc: Global, script: &NodeScript) -> Result<FlatScript, AllocError>
     ensures lowers { IfOk result (λ flat. Lowers script.now flat) }
     ensures same { IfOk result (λ flat. DoesTheSame script.now flat) }
+    ensures well_formed { IfOk result (λ flat. AllByRecursion WellFormed flat.functions) }
+    ensures there { IfOk result (λ flat. AllByRecursion (λ f. LabelsThere f.body) flat.functions) }
+    ensures keeps { IfOk result (λ flat. KeepsEach script.now.codes flat.functions) }
 {
     let mut functions = Vec::new(alloc);
     for code in script.codes.as_slice() {
@@ -50,12 +61,14 @@ fn lower_code(alloc: Global, code: &NodeCode) -> Result<FlatFunction, AllocError
     put(&mut out, Statement::End)?;
     mark(&mut out, fail)?;
     put(&mut out, Statement::Fail)?;
+    let registers = count_registers(&out)?;
     Ok(FlatFunction {
         scope: code.scope.share()?,
         params: share_shape(alloc, &code.params)?,
         generator: code.generator,
         line: code.line,
         labels: labels.len() as u64,
+        registers,
         body: Items::from_vec(out),
     })
 }

@@ -1,2 +1,3 @@
-mod Direct
+pub mod Direct
+pub mod Forms
 mod Example

@@ -3,14 +3,17 @@ use Rattle.std.proofs.Common.{◌≡◌, ℕ, ◌⊎◌, inl, inr, List, refl, s
 use Rattle.nu_run.specs.declared.End.TheVariants as end
 use Rattle.nu_run.specs.Runs.{Run, Going, Ended, printed_by}
 use Rattle.nu_base.specs.Outside.{Adds}
+use Rattle.nu_calls.specs.Rules.{table_rules}
 use Rattle.c_meaning.specs.Run.{c_run}
 use Rattle.c_reader.proofs.Programs.{one_program}
 use Rattle.nuit_lib.specs.declared.status.Status.{Status}
 use Rattle.nuit_lib.specs.declared.status.Status.TheVariants as status
 use Rattle.nuit_lib.specs.Words.{Command, BuildFile, RunFile, file_of, command_of}
 use Rattle.nuit_lib.specs.Replies.{Reply, BuildReply, RunReply, Ran, status_of, message_of}
-use Rattle.nuit_lib.specs.Ends.{Sunk, Call, Stays, Got, Broke, told_of, Replied, Ends, IsQuiet, Builds, Runs}
+use Rattle.nuit_lib.specs.Ends.{Sunk, Call, Stays, Got, Broke, told_of, Replied, Ends, IsQuiet, Names, Builds, Runs}
+use Rattle.nuit_lib.specs.Refusals.{OneKind}
 use Rattle.nuit_lib.proofs.Ending.{other}
+use Rattle.nuit_lib.proofs.OneKind.{one_kind}
 
 pub some_is : {A : Type 0} (a b : A) → Some a ≡ Some b → a ≡ b
 some_is a b e = ap (λ o. unwrap_or o a) e
@@ -99,31 +102,39 @@ module _ (c : Call) (command : Command) (told : List ℕ → Option (List ℕ)) 
   pub missing_of : (answer : Status) → Ends c answer → Quiet c answer → (answer ≡ status.Missing → told (file_of command) ≡ None) × (told (file_of command) ≡ None → answer ≡ status.Missing)
   missing_of answer e q = let r = replies c answer e q in missing_reply command (told (file_of command)) r.is.input answer r.text r.message (told_reply answer r.text r.message r.is)
 
-pub builds_of : (c : Call) (name : List ℕ) (told : List ℕ → Option (List ℕ)) → command_of c.words ≡ Some (BuildFile name) → c.told ≡ Some told → (bytes : List ℕ) (answer : Status) → told name ≡ Some bytes → Ends c answer → Quiet c answer → Builds name bytes c.out.before c.out.after answer
+pub builds_of : (c : Call) (name : List ℕ) (told : List ℕ → Option (List ℕ)) → command_of c.words ≡ Some (BuildFile name) → c.told ≡ Some told → (bytes : List ℕ) (answer : Status) → told name ≡ Some bytes → Ends c answer → Quiet c answer → Builds name bytes c.out.before c.out.after c.err.before c.err.after answer
 builds_of c name told w t bytes answer b e q =
     let r = replies c answer e q in
-    go answer r.text r.message (subst (λ f. Reply (Some (BuildFile name)) f r.is.input answer r.text r.message) b (told_reply c (BuildFile name) told w t answer r.text r.message r.is)) r.got
+    go answer r.text r.message (subst (λ f. Reply (Some (BuildFile name)) f r.is.input answer r.text r.message) b (told_reply c (BuildFile name) told w t answer r.text r.message r.is)) r.got r.told
   where
-    go : (answer : Status) (text message : List ℕ) → BuildReply name bytes answer text message → Got c.out text → Builds name bytes c.out.before c.out.after answer
-    go status.Done text message d got = record {
+    laws : OneKind bytes
+    laws = one_kind bytes
+
+    go : (answer : Status) (text message : List ℕ) → BuildReply name bytes answer text message → Got c.out text → Got c.err message → Builds name bytes c.out.before c.out.after c.err.before c.err.after answer
+    go status.Done text message d got said = record {
       too_large = (λ e. absurd (other _ _ (λ h. omega (arith, h)) e), λ long. absurd (let short = d.0.short in omega (arith, long, short)));
       done = (λ e. d.0, λ a. refl);
-      refused = (λ e. absurd (other _ _ (λ h. omega (arith, h)) e), λ r. absurd (r.1 d.0));
+      refused = (λ e. absurd (other _ _ (λ h. omega (arith, h)) e), λ r. absurd (laws.none d.0 r.1.0 r.1.1 r.1.2));
+      kind = λ kind line short r. absurd (laws.none d.0 kind line r);
       text = λ e. (text, got.held, d.1);
     }
-    go status.Refused text message d got = record {
+    go status.Refused text message d got said = record {
       too_large = (λ e. absurd (other _ _ (λ h. omega (arith, h)) e), λ long. absurd (let short = d.0 in omega (arith, long, short)));
-      done = (λ e. absurd (other _ _ (λ h. omega (arith, h)) e), λ a. absurd (d.1 a));
-      refused = (λ e. (d.0, d.1), λ r. refl);
+      done = (λ e. absurd (other _ _ (λ h. omega (arith, h)) e), λ a. absurd (laws.none a d.1 d.2 d.3));
+      refused = (λ e. (d.0, (d.1, d.2, d.3)), λ r. refl);
+      kind = λ kind line short r.
+          let one : d.1 ≡ kind = laws.one d.1 kind d.2 line d.3 r in
+          subst (λ k. Names k bytes c.err.before c.err.after) one (record { line = d.2; refused = d.3; message = subst (Adds c.err.before c.err.after) d.4.said said.held });
       text = λ e. absurd (other _ _ (λ h. omega (arith, h)) e);
     }
-    go status.TooLarge text message d got = record {
+    go status.TooLarge text message d got said = record {
       too_large = (λ e. d.0, λ h. refl);
       done = (λ e. absurd (other _ _ (λ h. omega (arith, h)) e), λ a. absurd (let short = a.short in let long = d.0 in omega (arith, long, short)));
       refused = (λ e. absurd (other _ _ (λ h. omega (arith, h)) e), λ r. absurd (let short = r.0 in let long = d.0 in omega (arith, long, short)));
+      kind = λ kind line short r. absurd (let long = d.0 in omega (arith, long, short));
       text = λ e. absurd (other _ _ (λ h. omega (arith, h)) e);
     }
-    go a text message d got = absurd d
+    go a text message d got said = absurd d
 
 -- what a run wrote is its program's
 ran_of : (bytes input : List ℕ) (steps : ℕ) (out err : Sunk) (answer : Status) (text message : List ℕ) → Ran bytes input steps answer text message → Got out text → Got err message → Runs bytes input steps out.before out.after err.before err.after answer
@@ -131,7 +142,7 @@ ran_of bytes input steps out err answer text message d got told = record {
   too_large = (λ e. absurd (subst IsRanStatus e (ran_is bytes input steps answer text message d)), λ long. absurd (let short = d.short in omega (arith, long, short)));
   not_c = (λ e. absurd (subst IsRanStatus e (ran_is bytes input steps answer text message d)), λ r. absurd (r.1 d.is_run.program d.is_run.is_text));
   ran = λ p short is_text.
-      let same : d.run ≡ c_run p input steps = d.is_run.is ∙ ap (λ x. c_run x input steps) (one_program bytes d.is_run.program p d.is_run.is_text is_text) in (
+      let same : d.run ≡ c_run table_rules p input steps = d.is_run.is ∙ ap (λ x. c_run table_rules x input steps) (one_program bytes d.is_run.program p d.is_run.is_text is_text) in (
         d.status ∙ ap status_of same,
         subst (Adds out.before out.after) (d.printed ∙ ap printed_by same) got.held,
         subst (Adds err.before err.after) (d.message ∙ ap message_of same) told.held,

@@ -1,168 +1,135 @@
 -- The written program does what the script does.
-use Rattle.std.proofs.Common.{◌≡◌, ℕ, zero, suc, ◌+◌, ◌*◌, ◌<◌, ◌≤◌, List, [], ◌∷◌, ◌++◌, length, refl, sym, ◌∙◌, ap, subst, append_assoc, append-nil, length-append, arith, Option, Some, None, decimal}
-use Rattle.std.specs.Prelude.{codes, slice_get, slice_set, replicate}
-use Rattle.std.specs.Fmt.{signed_decimal}
-use Rattle.std.specs.Option.{option_and_then, option_map}
-use Rattle.std.specs.List.{flat_map, AllByRecursion}
-use Rattle.std.proofs.lemmas.List.{get_or-set_same, length-set, length-replicate}
-use Rattle.std.proofs.lemmas.Option.{slice_get-get_or}
+use Rattle.std.proofs.Common.{◌≡◌, ℕ, zero, suc, List, [], ◌∷◌, ◌++◌, refl, sym, ◌∙◌, ap, subst, append_assoc, append-nil, Option, Some, None, Bool, true, false, unwrap_or}
+use Rattle.std.specs.Prelude.{ℤ, codes, if◌then◌else◌}
+use Rattle.std.specs.Str.{bytes_eq}
+use Rattle.std.proofs.lemmas.Slice.Eq.{bytes_eq-Decides}
 use Rattle.nu_run.specs.declared.End.TheVariants as end
-use Rattle.nu_run.specs.Runs.{Run, Ended, Below, Same}
-use Rattle.nu_run.specs.Steps.{More, on_step, run}
+use Rattle.nu_run.specs.Runs.{Below, Same}
 use Rattle.nu_run.proofs.Runs.{same_at_end, below_end}
-use Rattle.c_meaning.specs.declared.program.Op.TheVariants as op
-use Rattle.c_meaning.specs.declared.program.Argument.TheVariants as argument
-use Rattle.c_meaning.specs.declared.program.Statement.{Statement}
-use Rattle.c_meaning.specs.declared.program.Statement.TheVariants as statement
-use Rattle.c_meaning.specs.declared.program.Line.{Line}
-use Rattle.c_meaning.specs.declared.program.Line.TheVariants as line
-use Rattle.c_meaning.specs.declared.program.CProgram as program
-use Rattle.c_meaning.specs.declared.rows.Value.{Value}
-use Rattle.c_meaning.specs.declared.rows.Value.TheVariants as value
-use Rattle.c_meaning.specs.Rows.{Worth}
-use Rattle.c_meaning.specs.Printing.{PrintPair, pair_lines, failing_end}
-use Rattle.c_meaning.specs.Run.{State, World, printed_in, statements_of, by_statement, by_arguments, body_at, step, start, c_run}
-use Rattle.c_meaning.proofs.Monotone.{steps_are_monotone}
-use Rattle.py_ast.specs.declared.expr.Expr as expr_type
-use Rattle.py_ast.specs.declared.stmt.Stmt.{Stmt}
-use Rattle.py_ast.specs.declared.stmt.Stmt as stmt_type
-use Rattle.py_ast.specs.declared.stmt.Script as script
-use Rattle.nuit_lib.specs.Scripts.{print_statement, print_statements}
-use Rattle.nuit_lib.specs.PyMeaning.{Next, Spent, execute, printing, py_run, run_of}
-use Rattle.nuit_lib.specs.Printing.{pairs_from, program_of}
-
--- what a program of these pairs prints
-abbrev pub printed_by : List PrintPair → List ℕ
-printed_by [] = []
-printed_by (p ∷ pairs) = (signed_decimal p.number ++ codes "\n") ++ printed_by pairs
-
-abbrev final : List ℕ → Run
-final all = Ended all end.Done
-
--- the program's side: the statements of the pairs, and what follows
-abbrev get_print : ℕ → PrintPair → Statement
-get_print fail p = statement.Operation p.function p.function_line op.Global (argument.Name (codes "print") ∷ []) fail
-
-abbrev call_print : ℕ → PrintPair → Statement
-call_print fail p = statement.Operation p.result p.result_line op.Call (argument.Register p.function ∷ argument.Int p.number ∷ []) fail
-
-abbrev code_of : ℕ → List PrintPair → List Statement → List Statement
-code_of fail [] more = statement.End ∷ more
-code_of fail (p ∷ pairs) more = get_print fail p ∷ call_print fail p ∷ code_of fail pairs more
-
-statements_are : (fail : ℕ) (pairs : List PrintPair) (tail : List Line) → statements_of (flat_map (pair_lines fail) pairs ++ line.Do statement.End ∷ tail) ≡ code_of fail pairs (statements_of tail)
-statements_are fail [] tail = refl
-statements_are fail (p ∷ pairs) tail = ap (λ l. get_print fail p ∷ call_print fail p ∷ l) (statements_are fail pairs tail)
-
-slice_get_seam : {A : Type 0} (pre : List A) (x : A) (post : List A) → slice_get (pre ++ x ∷ post) (length pre) ≡ Some x
-slice_get_seam [] x post = refl
-slice_get_seam (y ∷ pre) x post = slice_get_seam pre x post
-
-fetched : (statements pre post : List Statement) (x : Statement) (k : ℕ) → statements ≡ pre ++ x ∷ post → k ≡ length pre → slice_get statements k ≡ Some x
-fetched statements pre post x k e q = ap (λ l. slice_get l k) e ∙ ap (slice_get (pre ++ x ∷ post)) q ∙ slice_get_seam pre x post
-
-stored_there : {A : Type 0} (xs : List A) (i : ℕ) (x : A) → i < length xs → slice_get (slice_set xs i x) i ≡ Some x
-stored_there xs i x h =
-    slice_get-get_or (slice_set xs i x) i x (subst (λ n. i < n) (sym (length-set xs i x)) h) ∙ ap Some (get_or-set_same xs i x x h)
-
--- a state in the first function
-abbrev at : ℕ → List (Option Value) → List ℕ → List ℕ → State
-at place registers printed input = record { running = record { function = 0; place = place; registers = registers }; world = record { printed = printed; input = input } }
-
-module _ (p : program.CProgram) (input : List ℕ) where
-  -- a statement that is there
-  step_at : (pre post : List Statement) (x : Statement) (k : ℕ) (registers : List (Option Value)) (out : List ℕ) → body_at p 0 ≡ pre ++ x ∷ post → k ≡ length pre → step p (at k registers out input) ≡ by_statement (at k registers out input) (Some x)
-  step_at pre post x k registers out e q = ap (by_statement (at k registers out input)) (fetched (body_at p 0) pre post x k e q)
-
-  run_step : (s t : State) (m : ℕ) → step p s ≡ More t → run (step p) printed_in (suc m) s ≡ run (step p) printed_in m t
-  run_step s t m e = ap (λ x. on_step x (run (step p) printed_in m)) e
-
-  -- two statements print a number
-  two_steps : (pre post : List Statement) (fail : ℕ) (q : PrintPair) (k : ℕ) (registers : List (Option Value)) (out : List ℕ) (m : ℕ) → body_at p 0 ≡ pre ++ get_print fail q ∷ call_print fail q ∷ post → k ≡ length pre → q.function < length registers
-      → run (step p) printed_in (suc (suc m)) (at k registers out input)
-      ≡ run (step p) printed_in m (at (k + 1 + 1) (slice_set (slice_set registers q.function (Some value.Print)) q.result (Some value.None)) (out ++ (signed_decimal q.number ++ codes "\n")) input)
-  two_steps pre post fail q k registers out m e l h =
-      let after = slice_set registers q.function (Some value.Print) in
-      let first : step p (at k registers out input) ≡ More (at (k + 1) after out input) =
-      step_at pre (call_print fail q ∷ post) (get_print fail q) k registers out e l ∙ ap (λ o. More (at (k + 1) after o input)) (append-nil out) in
-      let e' : body_at p 0 ≡ (pre ++ get_print fail q ∷ []) ++ call_print fail q ∷ post = e ∙ sym (append_assoc pre (get_print fail q ∷ []) (call_print fail q ∷ post)) in
-      let l' : k + 1 ≡ length (pre ++ get_print fail q ∷ []) = ap (λ n. n + 1) l ∙ sym (length-append pre (get_print fail q ∷ [])) in
-      let there : slice_get after q.function ≡ Some (Some value.Print) = stored_there registers q.function (Some value.Print) h in
-      let second : step p (at (k + 1) after out input) ≡ More (at (k + 1 + 1) (slice_set after q.result (Some value.None)) (out ++ (signed_decimal q.number ++ codes "\n")) input) =
-      step_at (pre ++ get_print fail q ∷ []) post (call_print fail q) (k + 1) after out e' l'
-      ∙ ap (λ o. by_arguments (at (k + 1) after out input) q.result op.Call (option_and_then (λ f. option_map (λ hs. f ∷ hs) (Some (Worth (value.Int q.number) ∷ []))) (option_map Worth (option_and_then (λ v. v) o)))) there in
-      run_step _ _ (suc m) first ∙ run_step _ _ m second
-
-  abbrev steps_to_end : List PrintPair → ℕ
-  steps_to_end [] = 1
-  steps_to_end (q ∷ pairs) = suc (suc (steps_to_end pairs))
-
-  c_end : (pairs : List PrintPair) (fail n : ℕ) (out : List ℕ) (pre more : List Statement) (k : ℕ) (registers : List (Option Value)) → body_at p 0 ≡ pre ++ code_of fail pairs more → k ≡ length pre → length registers ≡ n → AllByRecursion (λ q. q.function < n) pairs
-      → run (step p) printed_in (steps_to_end pairs) (at k registers out input) ≡ final (out ++ printed_by pairs)
-  c_end [] fail n out pre more k registers e l r all =
-      ap (λ x. on_step x (run (step p) printed_in 0)) (step_at pre more statement.End k registers out e l) ∙ ap final (sym (append-nil out))
-  c_end (q ∷ pairs) fail n out pre more k registers e l r all =
-      let text = signed_decimal q.number ++ codes "\n" in
-      let statements = get_print fail q ∷ call_print fail q ∷ [] in
-      let first = length-set registers q.function (Some value.Print) in
-      let second = length-set (slice_set registers q.function (Some value.Print)) q.result (Some value.None) in
-      let longer = length-append pre statements in
-      two_steps pre (code_of fail pairs more) fail q k registers out (steps_to_end pairs) e l (subst (λ x. q.function < x) (sym r) all.0)
-      ∙ c_end pairs fail n (out ++ text) (pre ++ statements) more (k + 1 + 1) (slice_set (slice_set registers q.function (Some value.Print)) q.result (Some value.None))
-      (e ∙ sym (append_assoc pre statements (code_of fail pairs more)))
-      (omega (arith, l, longer))
-      (second ∙ first ∙ r)
-      all.1
-      ∙ ap final (append_assoc out text (printed_by pairs))
+use Rattle.nu_value.specs.declared.value.Value.TheVariants as value
+use Rattle.op_rules.specs.declared.op.Op.TheVariants as op
+use Rattle.nu_calls.specs.Rules.{table_rules}
+use Rattle.c_meaning.specs.Run.{c_run}
+use Rattle.c_meaning.proofs.Grows.{c_monotone}
+use Rattle.py_ast.specs.declared.expr.Expr.{Expr, out-Expr}
+use Rattle.py_ast.specs.declared.expr.Expr.TheOpen.{Expr-F}
+use Rattle.py_ast.specs.declared.expr.Argument.{Argument}
+use Rattle.py_ast.specs.declared.expr.Argument.TheVariants as py_argument
+use Rattle.py_ast.specs.declared.stmt.Stmt.{Stmt, out-Stmt}
+use Rattle.py_ast.specs.declared.stmt.Stmt.TheOpen.{Stmt-F}
+use Rattle.py_ast.specs.declared.stmt.Script.{Script}
+use Rattle.nuit_lib.specs.declared.prints.PrintCall.{PrintCall}
+use Rattle.nuit_lib.specs.Scripts.{number_in, number, numeral, name_in, is_print_name, is_print, call_of, call_in, print_call_in, print_call, line_of, call_before, print_calls, other_at, first_other}
+use Rattle.nuit_lib.specs.PyMeaning.{World, Outcome, Next, Spent, then_do, operated, expression_row, evaluate, statement_row, execute, printing, py_run, run_of}
+use Rattle.nuit_lib.specs.Printing.{program_of}
+use Rattle.nuit_lib.proofs.PrintRuns.{text_of, printed_by, final, steps_to_end, runs}
 
 -- the script's side
-one_print : (n l v : ℕ) (body : List Stmt) (w : World) → execute (suc (suc n)) (print_statement l v ∷ body) w ≡ execute (suc (suc n)) body (printing w (decimal v ++ codes "\n"))
-one_print n l v body w = simp (expr_type.the_lemmas, stmt_type.the_lemmas)
 
-py_body : (values : List ℕ) (l k n : ℕ) (out input : List ℕ) → execute (suc (suc n)) (print_statements l values) (record { printed = out; input = input }) ≡ Next value.None (record { printed = out ++ printed_by (pairs_from k values); input = input })
-py_body [] l k n out input = ap (λ o. Next value.None (record { printed = o; input = input })) (sym (append-nil out))
-py_body (v ∷ values) l k n out input =
-    one_print n l v (print_statements (l + 1) values) (record { printed = out; input = input })
-    ∙ py_body values (l + 1) (k + 1) n (out ++ (decimal v ++ codes "\n")) input
-    ∙ ap (λ o. Next value.None (record { printed = o; input = input })) (append_assoc out (decimal v ++ codes "\n") (printed_by (pairs_from (k + 1) values)))
+none_is : {A : Type 0} (a : A) → None ≡ Some a → ⊥
+none_is a e = cc
 
-abbrev tree : List ℕ → script.Script
-tree values = record { statements = print_statements 1 values }
+-- an expression that is a call of `print` with one numeral
+record IsCall (y : Expr-F Expr) (call : PrintCall) : Type 0 where
+  line : ℕ
+  called : Expr
+  x : Expr
+  is : y ≡ Expr-F.Call line called (py_argument.Plain x ∷ [])
+  print : is_print called ≡ true
+  value : number x ≡ Some call.value
 
-py_end : (name values input : List ℕ) (n : ℕ) → py_run name (tree values) input (suc (suc (suc n))) ≡ final (printed_by (pairs_from 0 values))
-py_end name values input n = ap run_of (py_body values 1 0 n [] input)
+is_call : (y : Expr-F Expr) (call : PrintCall) → call_in y ≡ Some call → IsCall y call
+is_call (Expr-F.Call line called arguments) call h = go arguments (is_print called) refl h
+  where
+    value_is : (o : Option ℤ) → call_of line o ≡ Some call → o ≡ Some call.value
+    value_is (Some v) q = ap (λ o. Some ((unwrap_or o call).value)) q
+    value_is None q = absurd (none_is call q)
 
--- a bound too small for one call
-spent_before : (l v : ℕ) (body : List Stmt) (w : World) → execute zero (print_statement l v ∷ body) w ≡ Spent w
-spent_before l v body w = simp stmt_type.the_lemmas
+    go : (args : List (Argument Expr)) (t : Bool) → is_print called ≡ t → (if t then call_of line (numeral args) else None) ≡ Some call → IsCall (Expr-F.Call line called args) call
+    go args false e q = absurd (none_is call q)
+    go (py_argument.Plain x ∷ []) true e q = record { line = line; called = called; x = x; is = refl; print = e; value = value_is (number x) q }
+    go args true e q = absurd (none_is call q)
+is_call y call h = absurd (none_is call h)
 
-spent_inside : (l v : ℕ) (body : List Stmt) (w : World) → execute (suc zero) (print_statement l v ∷ body) w ≡ Spent w
-spent_inside l v body w = simp (expr_type.the_lemmas, stmt_type.the_lemmas)
+print_name : (part : Expr → World → Outcome) (y : Expr-F Expr) (w : World) → is_print_name (name_in y) ≡ true → expression_row part y w ≡ Next (value.Obj 38) w
+print_name part (Expr-F.Name line name) w h = ap (λ l. operated w op.Global (value.Str l ∷ [])) ((bytes_eq-Decides name (codes "print")).0 h)
+print_name part y w h = absurd (false_is h)
+  where
+    false_is : false ≡ true → ⊥
+    false_is e = cc
 
-py_below : (name values input : List ℕ) (n : ℕ) → Below (py_run name (tree values) input n) (final (printed_by (pairs_from 0 values)))
-py_below name values input zero = record { rest = printed_by (pairs_from 0 values); is = refl }
-py_below name [] input (suc n) = refl
-py_below name (v ∷ values) input (suc zero) =
-    subst (λ o. Below (run_of o) (final (printed_by (pairs_from 0 (v ∷ values))))) (sym (spent_before 1 v (print_statements 2 values) (record { printed = []; input = input }))) (record { rest = printed_by (pairs_from 0 (v ∷ values)); is = refl })
-py_below name (v ∷ values) input (suc (suc zero)) =
-    subst (λ o. Below (run_of o) (final (printed_by (pairs_from 0 (v ∷ values))))) (sym (spent_inside 1 v (print_statements 2 values) (record { printed = []; input = input }))) (record { rest = printed_by (pairs_from 0 (v ∷ values)); is = refl })
-py_below name (v ∷ values) input (suc (suc (suc n))) =
-    subst (λ r. Below r (final (printed_by (pairs_from 0 (v ∷ values))))) (sym (py_end name (v ∷ values) input n)) refl
+numeral_value : (part : Expr → World → Outcome) (y : Expr-F Expr) (v : ℤ) (w : World) → number_in y ≡ Some v → expression_row part y w ≡ Next (value.Int v) w
+numeral_value part (Expr-F.Number line number) v w h = ap (λ o. Next (value.Int (unwrap_or o v)) w) h
+numeral_value part y v w h = absurd (none_is v h)
 
--- the registers of all functions are declared
-declared : (values : List ℕ) (k n : ℕ) → 2 * (k + length values) ≤ n → AllByRecursion (λ q. q.function < n) (pairs_from k values)
-declared [] k n h = tt
-declared (v ∷ values) k n h = (omega (arith, h), declared values (k + 1) n (omega (arith, h)))
+call_prints : (n : ℕ) (y : Expr-F Expr) (call : PrintCall) (w : World) → IsCall y call → expression_row (evaluate (suc n)) y w ≡ Next value.None (printing w (text_of call))
+call_prints n y call w h =
+    subst (λ z. expression_row (evaluate (suc n)) z w ≡ Next value.None (printing w (text_of call))) (sym h.is)
+    (ap (λ o. then_do o (λ f w'. then_do (evaluate (suc n) h.x w') (λ v w''. operated w'' op.Call (f ∷ v ∷ [])))) (print_name (evaluate n) (out-Expr h.called) w h.print)
+    ∙ ap (λ o. then_do o (λ v w''. operated w'' op.Call (value.Obj 38 ∷ v ∷ []))) (numeral_value (evaluate n) (out-Expr h.x) call.value w h.value))
+
+-- a bound too small for the call
+spent_call : (y : Expr-F Expr) (call : PrintCall) (w : World) → IsCall y call → expression_row (evaluate zero) y w ≡ Spent w
+spent_call y call w h = subst (λ z. expression_row (evaluate zero) z w ≡ Spent w) (sym h.is) refl
+
+module _ (call : PrintCall) (w : World) where
+  statement_prints : (n : ℕ) (y : Stmt-F Stmt) → print_call_in y ≡ Some call → statement_row (suc (suc n)) y w ≡ Next value.None (printing w (text_of call))
+  statement_prints n (Stmt-F.Expr line x) h = ap (λ o. then_do o (λ v w'. Next value.None w')) (call_prints n (out-Expr x) call w (is_call (out-Expr x) call h))
+  statement_prints n y h = absurd (none_is call h)
+
+  spent_before : (y : Stmt-F Stmt) → print_call_in y ≡ Some call → statement_row zero y w ≡ Spent w
+  spent_before (Stmt-F.Expr line x) h = refl
+  spent_before y h = absurd (none_is call h)
+
+  spent_inside : (y : Stmt-F Stmt) → print_call_in y ≡ Some call → statement_row (suc zero) y w ≡ Spent w
+  spent_inside (Stmt-F.Expr line x) h = ap (λ o. then_do o (λ v w'. Next value.None w')) (spent_call (out-Expr x) call w (is_call (out-Expr x) call h))
+  spent_inside y h = absurd (none_is call h)
+
+-- the first of statements that are all such calls
+some_call : (s : Stmt) (body : List Stmt) → first_other (s ∷ body) ≡ None → (call : PrintCall) × (print_call s ≡ Some call) × (first_other body ≡ None)
+some_call s body h = go (print_call s) refl h
+  where
+    go : (o : Option PrintCall) → print_call s ≡ o → other_at (line_of s) o (first_other body) ≡ None → (call : PrintCall) × (print_call s ≡ Some call) × (first_other body ≡ None)
+    go (Some call) p q = (call, p, q)
+    go None p q = absurd (none_is (line_of s) (sym q))
+
+py_body : (body : List Stmt) (n : ℕ) (out input : List ℕ) → first_other body ≡ None → execute (suc (suc n)) body (record { printed = out; input = input }) ≡ Next value.None (record { printed = out ++ printed_by (print_calls body); input = input })
+py_body [] n out input h = ap (λ o. Next value.None (record { printed = o; input = input })) (sym (append-nil out))
+py_body (s ∷ body) n out input h =
+    let c = some_call s body h in
+    let w : World = record { printed = out; input = input } in
+    ap (λ o. then_do o (λ v w'. execute (suc (suc n)) body w')) (statement_prints c.0 w n (out-Stmt s) c.1)
+    ∙ py_body body n (out ++ text_of c.0) input c.2
+    ∙ ap (λ o. Next value.None (record { printed = o; input = input })) (append_assoc out (text_of c.0) (printed_by (print_calls body)))
+    ∙ ap (λ o. Next value.None (record { printed = out ++ printed_by (call_before o (print_calls body)); input = input })) (sym c.1)
+
+module _ (name : List ℕ) (s : Script) (all_calls : first_other s.statements ≡ None) (input : List ℕ) where
+  abbrev all : List ℕ
+  all = printed_by (print_calls s.statements)
+
+  py_end : (n : ℕ) → py_run name s input (suc (suc (suc n))) ≡ final all
+  py_end n = ap run_of (py_body s.statements n [] input all_calls)
+
+  -- within a bound that is too small nothing is printed
+  below_small : (n : ℕ) (body : List Stmt) (p : List ℕ) → first_other body ≡ None → ((call : PrintCall) → (y : Stmt-F Stmt) → print_call_in y ≡ Some call → statement_row n y (record { printed = []; input = input }) ≡ Spent (record { printed = []; input = input })) → p ≡ printed_by (print_calls body) → Below (run_of (execute n body (record { printed = []; input = input }))) (final p)
+  below_small n [] p h spent e = ap final e
+  below_small n (t ∷ body) p h spent e =
+      let c = some_call t body h in
+      subst (λ o. Below (run_of (then_do o (λ v w'. execute n body w'))) (final p)) (sym (spent c.0 (out-Stmt t) c.1)) (record { rest = p; is = refl })
+
+  py_below : (n : ℕ) → Below (py_run name s input n) (final all)
+  py_below zero = record { rest = all; is = refl }
+  py_below (suc zero) = below_small zero s.statements all all_calls (λ call y h. spent_before call (record { printed = []; input = input }) y h) refl
+  py_below (suc (suc zero)) = below_small (suc zero) s.statements all all_calls (λ call y h. spent_inside call (record { printed = []; input = input }) y h) refl
+  py_below (suc (suc (suc n))) = subst (λ r. Below r (final all)) (sym (py_end n)) refl
 
 -- the script and the written program do the same
-pub same_runs : (name values input : List ℕ) → Same (py_run name (tree values) input) (c_run (program_of name values) input)
-same_runs name values input =
-    let p = program_of name values in
-    let pairs = pairs_from 0 values in
-    let all = printed_by pairs in
-    let registers : List (Option Value) = replicate (2 * length values) None in
-    let m = steps_to_end p input pairs in
-    let done : c_run p input m ≡ final all =
-    c_end p input pairs 0 (2 * length values) [] [] (statements_of (failing_end 0 pairs)) 0 registers (statements_are 0 pairs (failing_end 0 pairs)) refl (length-replicate {A = Option Value} (2 * length values) None) (declared values 0 (2 * length values) (omega arith)) in
-    same_at_end (py_run name (tree values) input) (c_run p input) all end.Done (py_below name values input) 3 (py_end name values input 0)
-    (below_end (c_run p input) all end.Done (steps_are_monotone p (start p input)) m done) m done
+pub same_runs : (name : List ℕ) (s : Script) → first_other s.statements ≡ None → (input : List ℕ) → Same (py_run name s input) (c_run table_rules (program_of name (print_calls s.statements)) input)
+same_runs name s all_calls input =
+    let calls = print_calls s.statements in
+    let text = printed_by calls in
+    let p = program_of name calls in
+    let m = steps_to_end name calls input calls in
+    let done : c_run table_rules p input m ≡ final text = runs name calls input in
+    same_at_end (py_run name s input) (c_run table_rules p input) text end.Done (py_below name s all_calls input) 3 (py_end name s all_calls input 0)
+    (below_end (c_run table_rules p input) text end.Done (c_monotone table_rules p input) m done) m done

@@ -1,8 +1,9 @@
 pub mod Pairs
-pub mod Numerals
-pub mod Lines
-pub mod Sources
 pub mod Ending
+pub mod OneKind
+pub mod Ways
+pub mod Walks
+pub mod PrintRuns
 pub mod Compiles
 pub mod Texts
 pub mod RunEnds

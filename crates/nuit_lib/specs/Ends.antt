@@ -5,13 +5,16 @@ use Rattle.nuit_lib.specs.declared.status.Status.{Status}
 use Rattle.nuit_lib.specs.declared.status.Status.TheVariants as status
 use Rattle.nu_run.specs.Runs.{printed_by}
 use Rattle.c_meaning.specs.declared.program.CProgram as program
-use Rattle.c_meaning.specs.Printing.{IsText}
+use Rattle.c_meaning.specs.Written.{IsText}
+use Rattle.nu_calls.specs.Rules.{table_rules}
 use Rattle.c_meaning.specs.Run.{c_run}
 use Rattle.nuit_lib.specs.declared.words.Verb.{Verb}
 use Rattle.nuit_lib.specs.declared.words.Verb.TheVariants as verb
 use Rattle.nuit_lib.specs.Words.{Command, BuildFile, RunFile, file_of, command_of}
+use Rattle.nuit_lib.specs.declared.refusal.Kind.{Kind}
 use Rattle.nuit_lib.specs.Scripts.{Accepted}
-use Rattle.nuit_lib.specs.Replies.{Reply, RunFront, RunPart, BuildReply, RunReply, Says, IsBuilt, read_fault_text, status_of, message_of}
+use Rattle.nuit_lib.specs.Refusals.{IsRefused, HasKind}
+use Rattle.nuit_lib.specs.Replies.{Reply, RunFront, RunPart, BuildReply, RunReply, Says, IsBuilt, read_fault_text, refused_text, status_of, message_of}
 
 -- an output before and after a call: what it holds, where it tells it, and its count of faults
 pub record Sunk : Type 0 where
@@ -149,11 +152,18 @@ pub record IsQuiet (f f' o o' e e' : ℕ) (answer : Status) : Type 0 where
   pub err : Rose e e' → ⊥
   pub memory : answer ≢ status.Memory
 
--- The clause of `build FILE`, for the bytes of the file, and what the output held before and after.
-pub record Builds (name bytes : List ℕ) (before after : Option (List ℕ)) (answer : Status) : Type 0 where
+-- a script of this kind is refused with a message that names it, with a line that belongs to it
+pub record Names (kind : Kind) (bytes : List ℕ) (before after : Option (List ℕ)) : Type 0 where
+  pub line : ℕ
+  pub refused : IsRefused bytes kind line
+  pub message : Adds before after (refused_text kind line)
+
+-- The clause of `build FILE`, for the bytes of the file, and what the outputs held before and after.
+pub record Builds (name bytes : List ℕ) (before after err_before err_after : Option (List ℕ)) (answer : Status) : Type 0 where
   pub too_large : (answer ≡ status.TooLarge) ↔ (262144 < length bytes)
   pub done : (answer ≡ status.Done) ↔ Accepted bytes
-  pub refused : (answer ≡ status.Refused) ↔ ((length bytes ≤ 262144) × (Accepted bytes → ⊥))
+  pub refused : (answer ≡ status.Refused) ↔ ((length bytes ≤ 262144) × HasKind bytes)
+  pub kind : (kind : Kind) (line : ℕ) → length bytes ≤ 262144 → IsRefused bytes kind line → Names kind bytes err_before err_after
   pub text : answer ≡ status.Done → (text : List ℕ) × Adds before after text × IsBuilt name bytes text
 
 -- The clause of `run FILE STEPS`, for the bytes of the file and of the input, and what the outputs held before and after.
@@ -161,4 +171,4 @@ pub record Runs (bytes input : List ℕ) (steps : ℕ) (before after err_before 
   pub too_large : (answer ≡ status.TooLarge) ↔ (1073741824 < length bytes)
   pub not_c : (answer ≡ status.NotC) ↔ ((length bytes ≤ 1073741824) × ((p : program.CProgram) → IsText bytes p → ⊥))
   pub ran : (p : program.CProgram) → length bytes ≤ 1073741824 → IsText bytes p
-      → (answer ≡ status_of (c_run p input steps)) × Adds before after (printed_by (c_run p input steps)) × Adds err_before err_after (message_of (c_run p input steps))
+      → (answer ≡ status_of (c_run table_rules p input steps)) × Adds before after (printed_by (c_run table_rules p input steps)) × Adds err_before err_after (message_of (c_run table_rules p input steps))

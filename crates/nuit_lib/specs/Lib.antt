@@ -2,6 +2,7 @@ pub mod Codes
 pub mod Words
 pub mod Asked
 pub mod Scripts
+pub mod Refusals
 pub mod PyMeaning
 pub mod Printing
 pub mod Reading

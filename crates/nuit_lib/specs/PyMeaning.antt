@@ -4,18 +4,25 @@ use Rattle.nu_run.specs.declared.StopKind.{StopKind}
 use Rattle.nu_run.specs.declared.StopKind.TheVariants as stop
 use Rattle.nu_run.specs.declared.End.TheVariants as end
 use Rattle.nu_run.specs.Runs.{Run, Going, Ended}
-use Rattle.c_meaning.specs.declared.rows.Value.{Value}
-use Rattle.c_meaning.specs.declared.rows.Value.TheVariants as value
-use Rattle.c_meaning.specs.declared.rows.OpEnd.{OpEnd}
-use Rattle.c_meaning.specs.declared.rows.OpEnd.TheVariants as opend
-use Rattle.c_meaning.specs.Rows.{global_row, call_row}
-use Rattle.c_meaning.specs.Run.{World}
+use Rattle.nu_value.specs.declared.value.Value.{Value}
+use Rattle.nu_value.specs.declared.value.Value.TheVariants as value
+use Rattle.op_rules.specs.declared.end.OpEnd.{OpEnd}
+use Rattle.op_rules.specs.declared.end.OpEnd.TheVariants as opend
+use Rattle.op_rules.specs.declared.op.Op.{Op}
+use Rattle.op_rules.specs.declared.op.Op.TheVariants as op
+use Rattle.op_rules.specs.Start.{start_world}
+use Rattle.op_rules.specs.Table.{row}
 use Rattle.py_ast.specs.declared.expr.Expr.{Expr, out-Expr}
 use Rattle.py_ast.specs.declared.expr.Expr.TheOpen.{Expr-F}
 use Rattle.py_ast.specs.declared.expr.Argument.TheVariants as argument
 use Rattle.py_ast.specs.declared.stmt.Stmt.{Stmt, out-Stmt}
 use Rattle.py_ast.specs.declared.stmt.Stmt.TheOpen.{Stmt-F}
 use Rattle.py_ast.specs.declared.stmt.Script as script
+
+-- the bytes printed, and the input bytes left; no operation of this stage changes an object
+pub record World : Type 0 where
+  pub printed : List ℕ
+  pub input : List ℕ
 
 -- how a part ends
 pub data Outcome : Type 0 where
@@ -32,18 +39,23 @@ then_do (Spent w) rest = Spent w
 abbrev pub printing : World → List ℕ → World
 printing w text = record { printed = w.printed ++ text; input = w.input }
 
--- an operation's outcome
+-- an operation's outcome; what is outside this stage stops
 abbrev pub by_end : World → OpEnd → Outcome
 by_end w (opend.Give v) = Next v w
 by_end w (opend.Put text) = Next value.None (printing w text)
 by_end w (opend.Stop kind) = Stopped kind w
+by_end w other = Stopped stop.Unbuilt w
+
+-- the row of the table, in the world in which a script starts
+abbrev pub operated : World → Op → List Value → Outcome
+operated w o args = by_end w (row o (start_world []) args).end
 
 -- the row of an expression, by the outcomes of its parts; what is outside this stage stops
 abbrev pub expression_row : (Expr → World → Outcome) → Expr-F Expr → World → Outcome
 expression_row part (Expr-F.Number line number) w = Next (value.Int number) w
-expression_row part (Expr-F.Name line name) w = by_end w (global_row name)
+expression_row part (Expr-F.Name line name) w = operated w op.Global (value.Str name ∷ [])
 expression_row part (Expr-F.Call line function (argument.Plain x ∷ [])) w =
-    then_do (part function w) (λ f w'. then_do (part x w') (λ v w''. by_end w'' (call_row f v)))
+    then_do (part function w) (λ f w'. then_do (part x w') (λ v w''. operated w'' op.Call (f ∷ v ∷ [])))
 expression_row part other w = Stopped stop.Unbuilt w
 
 abbrev pub evaluate : ℕ → Expr → World → Outcome

@@ -7,12 +7,16 @@ use Rattle.nu_run.specs.declared.End.TheVariants as end
 use Rattle.nu_run.specs.Runs.{Run, Going, Ended, printed_by, IsPrefix, Same}
 use Rattle.py_ast.specs.declared.stmt.Script as script
 use Rattle.c_meaning.specs.declared.program.CProgram as program
-use Rattle.c_meaning.specs.Printing.{IsText}
+use Rattle.c_meaning.specs.Written.{IsText}
+use Rattle.nu_calls.specs.Rules.{table_rules}
 use Rattle.c_meaning.specs.Run.{c_run}
 use Rattle.nuit_lib.specs.declared.status.Status.{Status}
 use Rattle.nuit_lib.specs.declared.status.Status.TheVariants as status
 use Rattle.nuit_lib.specs.Words.{Command, BuildFile, RunFile}
+use Rattle.nuit_lib.specs.declared.refusal.Kind.{Kind}
+use Rattle.nuit_lib.specs.declared.refusal.Kind.TheVariants as kind
 use Rattle.nuit_lib.specs.Scripts.{IsTree, Accepted}
+use Rattle.nuit_lib.specs.Refusals.{IsRefused}
 use Rattle.nuit_lib.specs.PyMeaning.{py_run}
 
 abbrev pub usage_text : List ℕ
@@ -47,14 +51,30 @@ stop_text kind = codes "nuit: stop: " ++ (stop_name kind ++ codes "\n")
 abbrev pub undefined_text : ℕ → ℕ → List ℕ
 undefined_text function statement = codes "nuit: undefined: function " ++ (decimal function ++ (codes ", statement " ++ (decimal statement ++ codes "\n")))
 
-abbrev pub refused_text : ℕ → List ℕ
-refused_text line = codes "nuit: refused: Unbuilt, line " ++ (decimal line ++ codes "\n")
+abbrev pub kind_name : Kind → List ℕ
+kind_name kind.Utf8 = codes "Utf8"
+kind_name kind.Token = codes "Token"
+kind_name kind.Indent = codes "Indent"
+kind_name kind.Number = codes "Number"
+kind_name kind.Depth = codes "Depth"
+kind_name kind.Grammar = codes "Grammar"
+kind_name kind.Target = codes "Target"
+kind_name kind.Loop = codes "Loop"
+kind_name kind.Function = codes "Function"
+kind_name kind.Declare = codes "Declare"
+kind_name kind.Name = codes "Name"
+kind_name kind.Raise = codes "Raise"
+kind_name kind.Repeat = codes "Repeat"
+kind_name kind.Unbuilt = codes "Unbuilt"
+
+abbrev pub refused_text : Kind → ℕ → List ℕ
+refused_text kind line = codes "nuit: refused: " ++ (kind_name kind ++ (codes ", line " ++ (decimal line ++ codes "\n")))
 
 -- the text is that of a program that does, over every input, what a script of this name and these bytes does
 pub record IsBuilt (name bytes text : List ℕ) : Type 0 where
   pub program : program.CProgram
   pub is_text : IsText text program
-  pub same : (s : script.Script) → IsTree bytes s → (input : List ℕ) → Same (py_run name s input) (c_run program input)
+  pub same : (s : script.Script) → IsTree bytes s → (input : List ℕ) → Same (py_run name s input) (c_run table_rules program input)
 
 -- nothing is written to the output, and this to the error output
 pub record Says (message out err : List ℕ) : Type 0 where
@@ -64,7 +84,7 @@ pub record Says (message out err : List ℕ) : Type 0 where
 -- building a file of this name and these bytes
 abbrev pub BuildReply : List ℕ → List ℕ → Status → List ℕ → List ℕ → Type 0
 BuildReply name bytes status.Done out err = Accepted bytes × IsBuilt name bytes out × (err ≡ [])
-BuildReply name bytes status.Refused out err = (length bytes ≤ 262144) × (Accepted bytes → ⊥) × (line : ℕ) × Says (refused_text line) out err
+BuildReply name bytes status.Refused out err = (length bytes ≤ 262144) × (kind : Kind) × (line : ℕ) × IsRefused bytes kind line × Says (refused_text kind line) out err
 BuildReply name bytes status.TooLarge out err = (262144 < length bytes) × Says too_large_text out err
 BuildReply name bytes other out err = ⊥
 
@@ -94,7 +114,7 @@ message_of (Ended printed e) = message_at e
 pub record IsRun (bytes input : List ℕ) (steps : ℕ) (r : Run) : Type 0 where
   pub program : program.CProgram
   pub is_text : IsText bytes program
-  pub is : r ≡ c_run program input steps
+  pub is : r ≡ c_run table_rules program input steps
 
 -- all that a run printed, with its status and message
 pub record Ran (bytes input : List ℕ) (steps : ℕ) (answer : Status) (out err : List ℕ) : Type 0 where

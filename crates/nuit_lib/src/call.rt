@@ -44,7 +44,7 @@ pub fn nuit<F: Files, I: Source, O: Sink, E: Sink>(
     ensures build { (name bytes : List ℕ) → (told : List ℕ → Option (List ℕ))
         → command_of (map string_bytes words.now) ≡ Some (BuildFile name) → F.told files.old ≡ Some told → told name ≡ Some bytes
         → IsQuiet (F.faults files.old) (F.faults files.new) (O.faults out.old) (O.faults out.new) (E.faults err.old) (E.faults err.new) result
-        → Builds name bytes (O.held out.old) (O.held out.new) result }
+        → Builds name bytes (O.held out.old) (O.held out.new) (E.held err.old) (E.held err.new) result }
 
     // `run FILE` and `run FILE STEPS`, for told files, of which one has the name, and a told input.
     ensures run { (name bytes left : List ℕ) → (steps : ℕ) → (told : List ℕ → Option (List ℕ))

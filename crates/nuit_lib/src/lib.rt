@@ -1,20 +1,29 @@
 //! The compiler: a script of the Python profile becomes C text.
 //!
 //! `nuit` is the call that the program makes. specs/ tells its story in this order: `Words` (what the words ask for),
-//! `Scripts` (which bytes are a script), `PyMeaning` (what a script does), `Printing` (the program that is written for it),
-//! `Replies` (what a call owes), `Ends` (how a call ends).
+//! `Scripts` (which bytes are a script that is built), `Refusals` (why others are not), `PyMeaning` (what a script does),
+//! `Printing` (the program that is written for it), `Replies` (what a call owes), `Ends` (how a call ends). `Reading` says what
+//! the way to a script answers on the way.
 #![tactic(auto)]
 
 mod building;
 mod call;
+mod laws;
 mod printing;
+mod prints;
+mod reading;
+mod refusal;
 mod running;
+#[cfg(test)]
+mod runs;
 mod saying;
-mod script;
 mod status;
+#[cfg(test)]
+mod table;
 #[cfg(test)]
 mod tests;
 mod words;
 
 pub use call::nuit;
+pub use laws::one_kind;
 pub use status::Status;

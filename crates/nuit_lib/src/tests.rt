@@ -34,13 +34,13 @@ const USAGE: &[u8] = b"nuit: usage: tree FILE, build FILE, run FILE [STEPS], sam
 
 /// Which of the first calls fail: the fetch, the put of the output, the put of the error output.
 #[derive(Clone, Copy)]
-struct Failing {
+pub(crate) struct Failing {
     fetch: bool,
     out: bool,
     err: bool,
 }
 
-const NOTHING: Failing = Failing {
+pub(crate) const NOTHING: Failing = Failing {
     fetch: false,
     out: false,
     err: false,
@@ -70,33 +70,64 @@ const FETCH_AND_ERR: Failing = Failing {
     err: true,
 };
 
+// The call, without its contract: nothing below has to be proved from it.
+fn answered(
+    alloc: Global,
+    words: &[String],
+    files: &mut MemFiles,
+    input: &mut MemSource,
+    out: &mut MemSink,
+    err: &mut MemSink,
+) -> Status {
+    nuit(alloc, words, files, input, out, err)
+}
+
+fn spelled(alloc: Global, words: &[&str]) -> Result<Vec<String>, Fail> {
+    let mut texts = Vec::new(alloc);
+    for word in words {
+        texts.push(String::from_str(alloc, word)?)?;
+    }
+    Ok(texts)
+}
+
+// Files of which `t.py` has these bytes.
+fn files_with(alloc: Global, script: &[u8], fails: bool) -> Result<MemFiles, Fail> {
+    let mut files = MemFiles::new(alloc);
+    files.add("t.py", script)?;
+    if fails {
+        files.fail_at(1)?;
+    }
+    Ok(files)
+}
+
+fn sink(alloc: Global, fails: bool) -> Result<MemSink, Fail> {
+    let mut sink = MemSink::new(alloc);
+    if fails {
+        sink.fail_at(1)?;
+    }
+    Ok(sink)
+}
+
+// An input of which each take fails.
+fn no_input(alloc: Global) -> Result<MemSource, Fail> {
+    let mut input = MemSource::new(alloc, b"")?;
+    input.fail_at(1)?;
+    Ok(input)
+}
+
 // The status, and what both outputs got, of a call where the file `t.py` has these bytes. Each take of the input would fail.
-fn called(
+pub(crate) fn called(
     alloc: Global,
     words: &[&str],
     script: &[u8],
     failing: &Failing,
 ) -> Result<(Status, MemSink, MemSink), Fail> {
-    let mut texts = Vec::new(alloc);
-    for word in words {
-        texts.push(String::from_str(alloc, word)?)?;
-    }
-    let mut files = MemFiles::new(alloc);
-    files.add("t.py", script)?;
-    let mut input = MemSource::new(alloc, b"")?;
-    input.fail_at(1)?;
-    let mut out = MemSink::new(alloc);
-    let mut err = MemSink::new(alloc);
-    if failing.fetch {
-        files.fail_at(1)?;
-    }
-    if failing.out {
-        out.fail_at(1)?;
-    }
-    if failing.err {
-        err.fail_at(1)?;
-    }
-    let status = nuit(alloc, &texts, &mut files, &mut input, &mut out, &mut err);
+    let mut out = sink(alloc, failing.out)?;
+    let mut err = sink(alloc, failing.err)?;
+    let texts = spelled(alloc, words)?;
+    let mut files = files_with(alloc, script, failing.fetch)?;
+    let mut input = no_input(alloc)?;
+    let status = answered(alloc, &texts, &mut files, &mut input, &mut out, &mut err);
     Ok((status, out, err))
 }
 
@@ -110,11 +141,11 @@ struct Case {
     message: &'static [u8],
 }
 
-const BUILD: &[&str] = &["build", "t.py"];
+pub(crate) const BUILD: &[&str] = &["build", "t.py"];
 
 const RUN: &[&str] = &["run", "t.py"];
 
-static CASES: [Case; 30] = [
+static CASES: [Case; 31] = [
     Case {
         words: BUILD,
         file: b"",
@@ -133,15 +164,23 @@ static CASES: [Case; 30] = [
     },
     Case {
         words: BUILD,
-        file: b"print(1)",
+        file: b"x = 170141183460469231731687303715884105728",
         failing: NOTHING,
         status: Status::Refused,
         out: b"",
-        message: b"nuit: refused: Unbuilt, line 1\n",
+        message: b"nuit: refused: Number, line 1\n",
     },
     Case {
         words: BUILD,
-        file: b"print(1)\nprint(01)\n",
+        file: b"print(1)\ndef f(): return x",
+        failing: NOTHING,
+        status: Status::Refused,
+        out: b"",
+        message: b"nuit: refused: Name, line 2\n",
+    },
+    Case {
+        words: BUILD,
+        file: b"print(1)\ndef f(): return 1",
         failing: NOTHING,
         status: Status::Refused,
         out: b"",
@@ -149,19 +188,19 @@ static CASES: [Case; 30] = [
     },
     Case {
         words: BUILD,
-        file: b"print(170141183460469231731687303715884105728)\n",
+        file: b"$\n\xff",
         failing: NOTHING,
         status: Status::Refused,
         out: b"",
-        message: b"nuit: refused: Unbuilt, line 1\n",
+        message: b"nuit: refused: Utf8, line 1\n",
     },
     Case {
         words: BUILD,
-        file: b"print( 1)\n",
+        file: b"1.5",
         failing: NOTHING,
         status: Status::Refused,
         out: b"",
-        message: b"nuit: refused: Unbuilt, line 1\n",
+        message: b"nuit: refused: Number, line 1\n",
     },
     Case {
         words: &["build", "u.py"],
@@ -333,7 +372,7 @@ static CASES: [Case; 30] = [
     },
     Case {
         words: BUILD,
-        file: b"print",
+        file: b"y",
         failing: ERR,
         status: Status::WriteFault,
         out: b"",
@@ -357,10 +396,21 @@ static CASES: [Case; 30] = [
     },
 ];
 
-// Whether a call answers and writes what it should.
+// Whether a call where `t.py` has these bytes answers and writes this.
+pub(crate) fn gives(
+    alloc: Global,
+    words: &[&str],
+    file: &[u8],
+    failing: &Failing,
+    (status, out, message): (Status, &[u8], &[u8]),
+) -> Result<bool, Fail> {
+    let (answer, written, said) = called(alloc, words, file, failing)?;
+    Ok(answer == status && written.bytes() == out && said.bytes() == message)
+}
+
 fn is_right(alloc: Global, case: &Case) -> Result<bool, Fail> {
-    let (status, out, err) = called(alloc, case.words, case.file, &case.failing)?;
-    Ok(status == case.status && out.bytes() == case.out && err.bytes() == case.message)
+    let wanted = (case.status, case.out, case.message);
+    gives(alloc, case.words, case.file, &case.failing, wanted)
 }
 
 #[test]
@@ -373,24 +423,37 @@ fn builds_and_runs_or_says_why_not(rt: HostRuntime) -> Result<(), Fail> {
 }
 
 #[test]
+fn runs_what_it_builds(rt: HostRuntime) -> Result<(), Fail> {
+    let alloc = rt.alloc();
+    let script = b"print(0x_1F); print( 7 # c\n)\n".as_slice();
+    let (_built, text, _silent) = called(alloc, BUILD, script, &NOTHING)?;
+    let wanted = (Status::Done, b"31\n7\n".as_slice(), b"".as_slice());
+    assert!(rt; gives(alloc, RUN, text.bytes(), &NOTHING, wanted)?);
+    Ok(())
+}
+
+#[test]
 fn too_large(rt: HostRuntime) -> Result<(), Fail> {
     let alloc = rt.alloc();
     let script = vec![in alloc; b'#'; 262_145]?;
-    let (status, out, err) = called(alloc, BUILD, &script, &NOTHING)?;
-    assert_eq!(rt; status, Status::TooLarge);
-    assert_eq!(rt; out.bytes(), b"".as_slice());
-    assert_eq!(rt; err.bytes(), b"nuit: too large\n".as_slice());
+    let wanted = (
+        Status::TooLarge,
+        b"".as_slice(),
+        b"nuit: too large\n".as_slice(),
+    );
+    assert!(rt; gives(alloc, BUILD, &script, &NOTHING, wanted)?);
     Ok(())
 }
 
 #[test]
 fn without_its_last_byte(rt: HostRuntime) -> Result<(), Fail> {
-    let alloc = rt.alloc();
     let text = SEVEN_TEXT;
-    let (status, out, err) = called(alloc, RUN, &text[..text.len() - 1], &NOTHING)?;
-    assert_eq!(rt; status, Status::NotC);
-    assert_eq!(rt; out.bytes(), b"".as_slice());
-    assert_eq!(rt; err.bytes(), b"nuit: not C, line 13\n".as_slice());
+    let wanted = (
+        Status::NotC,
+        b"".as_slice(),
+        b"nuit: not C, line 13\n".as_slice(),
+    );
+    assert!(rt; gives(rt.alloc(), RUN, &text[..text.len() - 1], &NOTHING, wanted)?);
     Ok(())
 }
 

@@ -1,4 +1,4 @@
-mod Names
+pub mod Names
 mod Ranges
 mod Division
 mod Powers

@@ -14,6 +14,8 @@ mod order;
 mod parts;
 mod productions;
 mod role;
+#[cfg(test)]
+mod tests;
 
 pub use cursor::Cursor;
 pub use productions::{

@@ -4,10 +4,9 @@ use lib.Utf8.{scalar}
 use Rattle.std.proofs.lemmas.List.{drop-drop, drop-take, take-take, length-take}
 use Rattle.std.proofs.lemmas.Slice.Eq.{bytes_eq-Decides}
 use Rattle.std.proofs.lemmas.Str.{encodes-append}
-use Rattle.py_lexer.specs.Characters.{begins, belongs}
+use Rattle.py_lexer.specs.Characters.{begins}
 use Rattle.py_lexer.specs.PhysicalLines.{line_end, line_ends}
 use Rattle.py_lexer.specs.Numerals.{is_digit}
-use Rattle.py_lexer.specs.declared.runs.Class.TheVariants as class
 use Rattle.py_lexer.specs.declared.strings.Literal.{Literal}
 use Rattle.py_lexer.specs.declared.strings.Stands.{Stands}
 use Rattle.py_lexer.specs.Strings.{Part, part, earlier, join, behind, escaped, simple_escape, hex_length, all_digits, number, scalar_of, one, hex, octal_length, octal, hex_by, simple_by, escape, raw_escape, at_backslash, closing, item, body, is_quote, literal}
@@ -117,7 +116,7 @@ escape_ends b c s h = simple (simple_escape c)
 
     octal_ends : (found : Option ℕ) → line_ends s ≡ line_ends (drop (escaped (one found (octal_length (c ∷ s) + 1))).length (b ∷ c ∷ s))
     octal_ends None = refl
-    octal_ends (Some x) = rw (add-one (octal_length (c ∷ s))) (sym (plain_first c s h) ∙ plain_pass (octal_length (c ∷ s)) (c ∷ s) (all_are_plain (belongs class.Octal) refl refl (take (octal_length (c ∷ s)) (c ∷ s)) (run_all (belongs class.Octal) 3 (c ∷ s))))
+    octal_ends (Some x) = rw (add-one (octal_length (c ∷ s))) (sym (plain_first c s h) ∙ plain_pass (octal_length (c ∷ s)) (c ∷ s) (all_are_plain (is_digit 8) refl refl (take (octal_length (c ∷ s)) (c ∷ s)) (run_all (is_digit 8) 3 (c ∷ s))))
 
     hex_ends : (n : ℕ) → line_ends s ≡ line_ends (drop (escaped (hex n s)).length (b ∷ c ∷ s))
     hex_ends n = go (nat_lt (length s) n) (all_digits 16 (take n s)) refl (scalar (number 16 0 (take n s)))
@@ -139,7 +138,7 @@ escape_ends b c s h = simple (simple_escape c)
 
     simple : (stands : Option ℕ) → line_ends s ≡ line_ends (drop (escaped (simple_by stands (c ∷ s))).length (b ∷ c ∷ s))
     simple (Some x) = refl
-    simple None = other (belongs class.Octal c)
+    simple None = other (is_digit 8 c)
 
 zero_and : (m n : ℕ) → m ≡ n → m ≡ 0 + n
 zero_and m n e = omega arith

@@ -62,7 +62,7 @@ counted_under base n s t x e is = rw (e, is) refl
 other : (x : ℕ) → (x ≡ 95 → ⊥) → (x == 95) ≡ false
 other x differ = grind (arith, nat_tests)
 
-digit_is : (base x : ℕ) → digit_value x < base → is_digit base x ≡ true
+pub digit_is : (base x : ℕ) → digit_value x < base → is_digit base x ≡ true
 digit_is base x h = grind (arith, nat_tests)
 
 pub spelled_digit : (base : ℕ) (b : Bool) (s t : List ℕ) (x : ℕ) → s ≡ x ∷ t → (x ≡ 95 → ⊥) → digit_value x < base → are_digits base b s ≡ are_digits base true t

@@ -1,4 +1,5 @@
 pub mod Digits
+pub mod Octal
 pub mod LineEnds
 pub mod Bodies
 pub mod Law

@@ -1,5 +1,6 @@
 -- What the code's values stand for, and when its answers are right.
-use Rattle.std.specs.Prelude.{◌≡◌, ◌≤◌, ◌==◌, ◌||◌, nat_lt, if◌then◌else◌, ℕ, [], ◌∷◌, ◌++◌, Bool, true, false, List, take, map, reverse, Option, Some, None, Result, Ok, Err, encode_utf8_all, string_bytes}
+use Rattle.std.specs.Prelude.{◌≡◌, ◌≤◌, ◌<◌, ◌==◌, ◌||◌, nat_lt, if◌then◌else◌, ℕ, [], ◌∷◌, ◌++◌, Bool, true, false, List, take, map, reverse, Option, Some, None, Result, Ok, Err, encode_utf8_all, string_bytes}
+use Rattle.std.specs.Char.{digit_value}
 use Rattle.py_ast.specs.declared.token.Token.{Token}
 use Rattle.py_lexer.specs.declared.refusals.LexEnd.{LexEnd}
 use Rattle.py_lexer.specs.declared.refusals.LexEnd.TheVariants as end
@@ -40,6 +41,11 @@ abbrev pub base_of : ℕ → Option ℕ
 base_of c = if c == 120 || c == 88 then Some 16 else (if c == 111 || c == 79 then Some 8 else (if c == 98 || c == 66 then Some 2 else None))
 
 -- ---- strings
+
+-- an octal digit of this value stands at the front, and this behind it
+abbrev pub StartsWith : ℕ → List ℕ → List ℕ → Type 0
+StartsWith d rest [] = ⊥
+StartsWith d rest (c ∷ s) = (digit_value c ≡ d) × (d < 8) × (rest ≡ s)
 
 abbrev pub characters : Stands → List ℕ
 characters stands.Nothing = []

@@ -1,10 +1,10 @@
 -- String literals (reference, section 2.4.1), with no prefix or that of a raw string. An escape by name, and one that isn't listed, is refused.
 use Rattle.std.specs.Prelude.{ℕ, zero, suc, ◌+◌, ◌-◌, ◌*◌, Bool, true, false, ◌&&◌, ◌||◌, ◌==◌, nat_lt, if◌then◌else◌, List, [], ◌∷◌, ◌++◌, take, drop, length, Option, Some, None, slice_index}
 use Rattle.std.specs.Char.{digit_value}
+use Rattle.std.specs.List.{prefix_len}
 use lib.Utf8.{scalar}
-use Rattle.py_lexer.specs.Characters.{begins, belongs, run_length}
+use Rattle.py_lexer.specs.Characters.{begins}
 use Rattle.py_lexer.specs.PhysicalLines.{line_end}
-use Rattle.py_lexer.specs.declared.runs.Class.TheVariants as class
 use Rattle.py_lexer.specs.declared.strings.Literal.{Literal}
 use Rattle.py_lexer.specs.Numerals.{is_digit}
 
@@ -47,8 +47,11 @@ one (Some c) n = Some (c ∷ [], n)
 unfoldable pub hex : ℕ → List ℕ → Option Escape
 hex n s = if nat_lt (length s) n then None else one (scalar_of 16 (take n s)) (n + 2)
 
+abbrev pub octal_run : List ℕ → ℕ
+octal_run s = prefix_len (is_digit 8) s
+
 abbrev pub octal_length : List ℕ → ℕ
-octal_length s = run_length class.Octal (take 3 s)
+octal_length s = octal_run (take 3 s)
 
 -- one to three octal digits
 unfoldable pub octal : List ℕ → Option Escape
@@ -61,7 +64,7 @@ hex_by (Some n) s = hex n s
 abbrev pub simple_by : Option ℕ → List ℕ → Option Escape
 simple_by (Some c) s = Some (c ∷ [], 2)
 simple_by None [] = None
-simple_by None (c ∷ s) = if belongs class.Octal c then octal (c ∷ s) else hex_by (hex_length c) s
+simple_by None (c ∷ s) = if is_digit 8 c then octal (c ∷ s) else hex_by (hex_length c) s
 
 -- An escape, from behind its backslash: a line end stands for nothing.
 unfoldable pub escape : List ℕ → Option Escape

@@ -5,9 +5,8 @@
 //!
 //! The text is decoded once, into a list of characters, and then read once from its front: what a
 //! piece stands for, its length and its line ends come out of the same pass over its characters. The
-//! look ahead is of three characters at most: for a sign, for quotes, for the digits of an octal
-//! escape. What was read isn't looked up in the text again, but for an indentation, a slice of it,
-//! which is compared with the levels.
+//! look ahead is of three characters at most, for a sign and for quotes. What was read isn't looked up
+//! in the text again, but for an indentation, a slice of it, which is compared with the levels.
 //!
 //! Numbers are integers below 2^127, strings have the prefixes `r` and `R` alone, and an escape that
 //! the reference doesn't list, or one by name, is refused. So is an indentation that mixes blanks in

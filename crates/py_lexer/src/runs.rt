@@ -14,7 +14,6 @@ pub enum Class {
     Comment,
     Word,
     Numeral,
-    Octal,
 }
 
 fn belongs(class: Class, c: char) -> bool
@@ -25,7 +24,6 @@ fn belongs(class: Class, c: char) -> bool
         Class::Comment => !(c == '\n' || c == '\r'),
         Class::Word => unicode_ident::is_xid_continue(c),
         Class::Numeral => c.is_ascii_alphanumeric() || c == '_' || c == '.',
-        Class::Octal => c.is_digit(8),
     }
 }
 

@@ -1,12 +1,12 @@
 //! String literals (reference, section 2.4.1).
 
-ghost use Rattle.std.specs.Prelude.{◌≡◌, ◌<◌, ◌≤◌, ◌+◌, ◌++◌, length, OnOk, IfOk, IfSome, IsTrue, encode_utf8_all, string_bytes, slice_index};
+ghost use Rattle.std.specs.Prelude.{◌≡◌, ◌<◌, ◌≤◌, ◌+◌, ◌++◌, length, OnOk, IfOk, IfSome, IsTrue, MatchOption, true, take, encode_utf8_all, string_bytes, slice_index};
 ghost use Rattle.py_lexer.specs.Characters.{begins};
 ghost use Rattle.py_lexer.specs.PhysicalLines as physical;
 ghost use Rattle.py_lexer.specs.Strings as spec;
 ghost use Rattle.py_lexer.specs.Seen as seen;
 
-use crate::runs::{Class, line_end, run};
+use crate::runs::line_end;
 use std::alloc::{AllocError, Global};
 
 /// What an escape or another character of a literal stands for.
@@ -109,15 +109,41 @@ fn hex(n: usize, text: &[char]) -> Option<(Stands, usize)>
     Some((Stands::One(c), n + 2))
 }
 
-#[tactic(auto, unfolding(crate::specs::Strings::octal))]
+/// The octal digit at the front, and what comes behind it.
+fn split_octal(text: &[char]) -> Option<(u32, &[char])>
+    ensures { MatchOption result (spec.octal_run text.now ≡ 0) (λ r. seen.StartsWith r.0 r.1.now text.now) }
+{
+    let (c, rest) = text.split_first()?;
+    let digit = c.to_digit(8)?;
+    Some((digit, rest))
+}
+
+/// The number that the octal digits at the front name, three at most, and how many they are.
+fn octal_number(text: &[char]) -> (u32, usize)
+    ensures value { result.0 ≡ spec.number 8 0 (take (spec.octal_length text.now) text.now) }
+    ensures digits { spec.all_digits 8 (take (spec.octal_length text.now) text.now) ≡ true }
+    ensures length { result.1 ≡ spec.octal_length text.now }
+    ensures within { result.1 ≤ length text.now }
+{
+    let mut number = 0;
+    let mut length = 0;
+    let mut rest = if text.len() < 3 { text } else { &text[..3] };
+    'digits: while let Some((digit, after)) = split_octal(rest) {
+        number = number * 8 + digit;
+        length += 1;
+        rest = after;
+    }
+    (number, length)
+}
+
+#[tactic(auto, unfolding(crate::specs::Strings::octal, crate::specs::Strings::scalar_of))]
 fn octal(text: &[char]) -> Option<(Stands, usize)>
     ensures value { seen.escape result ≡ spec.octal text.now }
     ensures within { IfSome result (λ i. (0 < i.1) × (i.1 ≤ length text.now + 1)) }
 {
-    let front = if text.len() < 3 { text } else { &text[..3] };
-    let n = run(Class::Octal, front);
-    let c = scalar_of(8, &text[..n])?;
-    Some((Stands::One(c), n + 1))
+    let (number, length) = octal_number(text);
+    let c = char::from_u32(number)?;
+    Some((Stands::One(c), length + 1))
 }
 
 /// An escape other than of a line end, from behind its backslash, and its length.

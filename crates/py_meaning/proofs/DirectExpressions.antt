@@ -7,7 +7,7 @@ use Rattle.nu_rows.specs.Rows.{End, Next, Leave, Raised, Return, Stopped, Undefi
 use Rattle.nu_rows.proofs.Direct.{Direct, act_direct, yield_direct, sub_direct, loop_direct, then_direct, value_direct, choose_direct, line_direct}
 use Rattle.nu_calls.specs.Calls.{operate, yields}
 use Rattle.py_meaning.specs.Syntax as syntax
-use Rattle.py_meaning.specs.Frames.{R, L, load, store, unbind}
+use Rattle.py_meaning.specs.Frames.{R, L, uses, load, store, unbind}
 use Rattle.py_meaning.specs.Expressions.{is_one_of, stopped_or, unless_stopped, delegated, resumes, sends, closes, throws, thrown, woken, delegate_turn, delegate, function, put_all, bare_function, as_tuple, negates, keywords_begun, expression, each, named, compare, fill, enter, pass}
 
 pub op_direct : (l : L) (line : ℕ) (o : Op) (args : List Value) → Direct (operate l line o args)
@@ -15,6 +15,9 @@ op_direct l line o args = line_direct _ _ (sub_direct _) (λ x. act_direct _)
 
 pub yields_direct : (l : L) (line : ℕ) (v : Value) → Direct (yields l line v)
 yields_direct l line v = line_direct _ _ (yield_direct v) (λ x. act_direct _)
+
+pub uses_direct : (v : Value) (k : Value → R) → ((w : Value) → Direct (k w)) → Direct (uses v k)
+uses_direct v k h = value_direct _ _ (act_direct _) h
 
 pub load_direct : (l : L) (line : ℕ) (home : syntax.Home) → Direct (load l line home)
 load_direct l line (syntax.Local place name) = value_direct _ _ (act_direct _) (λ v. op_direct l line _ _)
@@ -80,7 +83,7 @@ woken_direct l line iterator (Raised x) = thrown_direct l line iterator x
 woken_direct l line iterator e = act_direct _
 
 pub delegate_turn_direct : (l : L) (line : ℕ) (iterator : Value) → Direct (delegate_turn l line iterator)
-delegate_turn_direct l line iterator = value_direct _ _ (act_direct _) (λ v. then_direct _ _ (yields_direct l line v) (woken_direct l line iterator))
+delegate_turn_direct l line iterator = value_direct _ _ (act_direct _) (λ v. uses_direct v _ (λ w. then_direct _ _ (yields_direct l line w) (woken_direct l line iterator)))
 
 delegate_direct : (l : L) (line : ℕ) (v : Value) → Direct (delegate l line v)
 delegate_direct l line v = value_direct _ _ (op_direct l line _ _) (λ iterator.
@@ -136,7 +139,7 @@ mutual
   expression_direct l (syntax.Comprehension line code x cells) =
       value_direct _ _ (expression_direct l x) (λ v. value_direct _ _ (op_direct l line _ _) (λ iterator.
       value_direct _ _ (bare_direct l line code cells) (λ f. op_direct l line _ _)))
-  expression_direct l (syntax.Yield line x) = value_direct _ _ (expression_direct l x) (yields_direct l line)
+  expression_direct l (syntax.Yield line x) = value_direct _ _ (expression_direct l x) (λ v. uses_direct v _ (yields_direct l line))
   expression_direct l (syntax.YieldFrom line x) = value_direct _ _ (expression_direct l x) (delegate_direct l line)
 
   pub each_direct : (l : L) (xs : syntax.Expressions) (k : List Value → R) → ((vs : List Value) → Direct (k vs)) → Direct (each l xs k)

@@ -2,13 +2,13 @@
 use Rattle.std.proofs.Common.{ℕ, zero, suc, List, [], ◌∷◌, Option, Some, None}
 use Rattle.nu_value.specs.declared.value.Value.{Value}
 use Rattle.op_rules.specs.declared.op.Op.{Op}
-use Rattle.nu_rows.specs.Rows.{End, Next, Leave, Raised, Return, Stopped, Undefined, Loop}
+use Rattle.nu_rows.specs.Rows.{End, Next, Leave, Raised, Return, Stopped, Undefined}
 use Rattle.nu_rows.proofs.Direct.{Direct, act_direct, loop_direct, then_direct, value_direct, choose_direct}
 use Rattle.py_meaning.specs.Syntax as syntax
-use Rattle.py_meaning.specs.Frames.{Item, R, L, store}
-use Rattle.py_meaning.specs.Statements.{assign, assign_each, assign_all, augment, delete, delete_each, body_ended, with_else, else_behind, while_turn, for_turn, pending, finishing, tries, caught, leaving, with_manager, raise, reraise, fails, decorators, decorated, class_made, statement, block, handler}
+use Rattle.py_meaning.specs.Frames.{R, L}
+use Rattle.py_meaning.specs.Statements.{assign, assign_each, assign_all, augment, delete, delete_each, body_ended, with_else, else_behind, while_turn, for_turn, returns, goes_on, pending, finishing, tries, caught, leaving, with_manager, raise, reraise, fails, decorators, decorated, class_made, statement, block, handler}
 use Rattle.py_meaning.specs.Bodies.{collect_turn, turns, ranges, collects, body_row, cell_filled, with_cells, code_row}
-use Rattle.py_meaning.proofs.DirectExpressions.{op_direct, yields_direct, load_direct, store_direct, unbind_direct, unless_direct, bare_direct, expression_direct, each_direct}
+use Rattle.py_meaning.proofs.DirectExpressions.{op_direct, yields_direct, uses_direct, load_direct, store_direct, unbind_direct, unless_direct, bare_direct, expression_direct, each_direct}
 
 mutual
   assign_direct : (l : L) (v : Value) (t : syntax.Target) → Direct (assign l v t)
@@ -82,8 +82,15 @@ for_direct : (l : L) (line : ℕ) (iterator : Value) (t : syntax.Target) (body :
 for_direct l line iterator t body h =
     unless_direct l line _ _ _ (op_direct l line _ _) (λ v. then_direct _ _ (value_direct _ _ (assign_direct l v t) (λ w. h)) body_direct) (λ x. act_direct _)
 
+goes_on_direct : (e : End) → Direct (goes_on e)
+goes_on_direct (Raised x) = act_direct _
+goes_on_direct e = act_direct _
+
+returns_direct : (v : Value) → Direct (returns v)
+returns_direct v = uses_direct v _ (λ w. act_direct _)
+
 pending_direct : (e d : End) → Direct (pending e d)
-pending_direct e (Next v) = act_direct _
+pending_direct e (Next v) = goes_on_direct e
 pending_direct e d = act_direct _
 
 finishing_direct : (r : R) → Direct r → (e : End) → Direct (finishing r e)
@@ -145,7 +152,7 @@ mutual
   statement_direct l handled syntax.Pass = act_direct _
   statement_direct l handled syntax.Break = act_direct _
   statement_direct l handled syntax.Continue = act_direct _
-  statement_direct l handled (syntax.Return x) = value_direct _ _ (expression_direct l x) (λ v. act_direct _)
+  statement_direct l handled (syntax.Return x) = value_direct _ _ (expression_direct l x) returns_direct
   statement_direct l handled (syntax.Raise line x) = value_direct _ _ (expression_direct l x) (raise_direct l line)
   statement_direct l handled syntax.Reraise = reraise_direct handled
   statement_direct l handled (syntax.Assert line test texts) =
@@ -186,7 +193,7 @@ collect_direct l line iterator t r h =
 turns_direct : (l : L) (line : ℕ) (into : Value) (ts : syntax.Turns) → Direct (turns l line into ts)
 turns_direct l line into (syntax.Push x) = value_direct _ _ (expression_direct l x) (λ v. op_direct l line _ _)
 turns_direct l line into (syntax.Put x y) = value_direct _ _ (expression_direct l x) (λ k. value_direct _ _ (expression_direct l y) (λ v. op_direct l line _ _))
-turns_direct l line into (syntax.Emit x) = value_direct _ _ (expression_direct l x) (yields_direct l line)
+turns_direct l line into (syntax.Emit x) = value_direct _ _ (expression_direct l x) (λ v. uses_direct v _ (yields_direct l line))
 turns_direct l line into (syntax.Ranging t over ts) =
     value_direct _ _ (expression_direct l over) (λ v. value_direct _ _ (op_direct l line _ _) (λ iterator. loop_direct _ _ (collect_direct l line iterator t _ (turns_direct l line into ts))))
 turns_direct l line into (syntax.Filter test ts) =
@@ -197,11 +204,11 @@ ranges_direct l line into t ts = value_direct _ _ (act_direct _) (λ iterator. l
 
 collects_direct : (l : L) (line : ℕ) (o : Option Op) (t : syntax.Target) (ts : syntax.Turns) → Direct (collects l line o t ts)
 collects_direct l line None t ts = ranges_direct l line _ t ts
-collects_direct l line (Some o) t ts = value_direct _ _ (op_direct l line _ _) (λ made. value_direct _ _ (ranges_direct l line made t ts) (λ v. act_direct _))
+collects_direct l line (Some o) t ts = value_direct _ _ (op_direct l line _ _) (λ made. value_direct _ _ (ranges_direct l line made t ts) (λ v. returns_direct made))
 
 body_row_direct : (l : L) (b : syntax.Body) → Direct (body_row l b)
 body_row_direct l (syntax.Statements b) = block_direct l None b
-body_row_direct l (syntax.Value' x) = value_direct _ _ (expression_direct l x) (λ v. act_direct _)
+body_row_direct l (syntax.Value' x) = value_direct _ _ (expression_direct l x) returns_direct
 body_row_direct l (syntax.Collect line o t ts) = collects_direct l line o t ts
 
 filled_direct : (l : L) (line : ℕ) (c : Value) (own : Option ℕ) → Direct (cell_filled l line c own)

@@ -1,14 +1,13 @@
 -- Runs of small scripts, computed.
-use Rattle.std.specs.Prelude.{◌≡◌, refl, ℕ, pos, List, [], ◌∷◌, ◌++◌, Option, Some, None, Bool, true, false, codes}
+use Rattle.std.specs.Prelude.{◌≡◌, refl, ℕ, pos, List, [], ◌∷◌, ◌++◌, true, false, codes}
 use Rattle.nu_run.specs.declared.End.TheVariants as end
 use Rattle.nu_run.specs.Runs.{Run, Going, Ended}
-use Rattle.nu_value.specs.declared.value.Value.{Value}
 use Rattle.nu_value.specs.declared.value.Value.TheVariants as value
 use Rattle.op_rules.specs.declared.op.Op.{Op}
 use Rattle.op_rules.specs.declared.op.Op.TheVariants as op
 use Rattle.nu_calls.specs.Rules.{table_rules}
 use Rattle.nu_calls.specs.Traceback.{entries_text}
-use Rattle.py_meaning.specs.Syntax.{Home, Module, Expression, Constant, Name, Operation, Junction, Comparison, Link, LastLink, NoMore, More, Block, Done, Then, Statement, Evaluate, Assign, Augment, Delete, AlsoTo, NoTarget, ToName, If, While, Finally, Continue, Break, Code, Statements}
+use Rattle.py_meaning.specs.Syntax.{Module, Expression, Constant, Name, Operation, Junction, Comparison, Link, LastLink, NoMore, More, Block, Done, Then, Statement, Evaluate, Assign, Augment, Delete, AlsoTo, NoTarget, ToName, If, While, Finally, Continue, Break, Code, Statements}
 use Rattle.py_meaning.specs.Bodies.{codes_run}
 
 abbrev script : Block → List Code

@@ -1,3 +1,4 @@
 mod DirectExpressions
 mod DirectStatements
 mod Examples
+mod Calls

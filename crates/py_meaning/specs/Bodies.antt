@@ -1,20 +1,19 @@
 -- What bodies do: those of modules, functions and classes, of lambdas and of comprehensions; and the language that they make up.
-use Rattle.std.specs.Prelude.{ℕ, List, [], ◌∷◌, ◌++◌, map, length, replicate, ◌-◌, Option, Some, None, nat_eq, nat_le, ◌&&◌, if◌then◌else◌, slice_get, take}
+use Rattle.std.specs.Prelude.{ℕ, List, [], ◌∷◌, ◌++◌, map, length, replicate, ◌-◌, Option, Some, None, nat_le, ◌&&◌, if◌then◌else◌, slice_get, take}
 use Rattle.nu_run.specs.Runs.{Run}
-use Rattle.nu_value.specs.declared.header.Header.{Header}
 use Rattle.nu_value.specs.declared.value.Value.{Value}
 use Rattle.nu_value.specs.declared.value.Value.TheVariants as value
 use Rattle.op_rules.specs.declared.op.Op.{Op}
 use Rattle.op_rules.specs.declared.op.Op.TheVariants as op
-use Rattle.nu_rows.specs.Rows.{End, Leave, Return, Undefined, Row, Loop}
+use Rattle.nu_rows.specs.Rows.{Leave, Undefined, Loop}
 use Rattle.nu_rows.specs.Words.{then_value, ends_with, choose}
 use Rattle.nu_calls.specs.Calls.{operate, yields}
 use Rattle.nu_calls.specs.Rules.{Rules}
 use Rattle.nu_calls.specs.Scripts.{Program, program_run}
 use Rattle.py_meaning.specs.Syntax as syntax
-use Rattle.py_meaning.specs.Frames.{Frame, Item, OfCode, WhileTurn, ForTurn, CollectTurn, DelegateTurn, R, L, at, reads, changes, with_own}
+use Rattle.py_meaning.specs.Frames.{Frame, Item, OfCode, WhileTurn, ForTurn, CollectTurn, DelegateTurn, R, L, at, reads, uses, changes, with_own}
 use Rattle.py_meaning.specs.Expressions.{gives, truth, unless_stopped, next, expression, delegate_loop}
-use Rattle.py_meaning.specs.Statements.{assign, block, while_turn, for_turn}
+use Rattle.py_meaning.specs.Statements.{assign, returns, block, while_turn, for_turn}
 
 -- Comprehensions (reference, section 6.2.4)
 
@@ -25,7 +24,7 @@ collect_turn l line iterator target inner =
 abbrev pub turns : L → ℕ → Value → syntax.Turns → R
 turns l line into (syntax.Push x) = then_value (expression l x) (λ v. operate l line op.Push (into ∷ v ∷ []))
 turns l line into (syntax.Put x y) = then_value (expression l x) (λ key. then_value (expression l y) (λ v. operate l line op.Put (into ∷ key ∷ v ∷ [])))
-turns l line into (syntax.Emit x) = then_value (expression l x) (yields l line)
+turns l line into (syntax.Emit x) = then_value (expression l x) (λ v. uses v (yields l line))
 turns l line into (syntax.Ranging target over inner) =
     then_value (expression l over) (λ v. then_value (operate l line op.Iter (v ∷ [])) (λ iterator.
     Loop (collect_turn l line iterator target (turns l line into inner)) (CollectTurn line into iterator target inner)))
@@ -40,13 +39,13 @@ ranges l line into target inner =
 abbrev pub collects : L → ℕ → Option Op → syntax.Target → syntax.Turns → R
 collects l line None target inner = ranges l line value.None target inner
 collects l line (Some o) target inner =
-    then_value (operate l line o []) (λ made. then_value (ranges l line made target inner) (λ v. ends_with (Return made)))
+    then_value (operate l line o []) (λ made. then_value (ranges l line made target inner) (λ v. returns made))
 
 -- Codes
 
 abbrev pub body_row : L → syntax.Body → R
 body_row l (syntax.Statements body) = block l None body
-body_row l (syntax.Value' x) = then_value (expression l x) (λ v. ends_with (Return v))
+body_row l (syntax.Value' x) = then_value (expression l x) returns
 body_row l (syntax.Collect line into target inner) = collects l line into target inner
 
 -- a cell of the frame is made, and holds a parameter, if it is one's
@@ -75,13 +74,13 @@ item_row l codes (CollectTurn line into iterator target inner) =
     Loop (collect_turn l line iterator target (turns l line into inner)) (CollectTurn line into iterator target inner)
 item_row l codes (DelegateTurn line iterator) = delegate_loop l line iterator
 
--- a code begins with a value for each of its parameters, and a cell for each that it has of enclosing functions; its other local
--- variables are Unset
+-- a code begins where there is a value for each of its parameters, and a cell for each that it has of enclosing functions; its other
+-- local variables are Unset
 abbrev pub begun_frame : ℕ → List Value → List Value → Option syntax.Code → Option Frame
 begun_frame code given cells None = None
 begun_frame code given cells (Some c) =
-    if nat_eq (length given) (length c.header.params) && nat_eq (length cells) c.frees
-    then Some (record { code = code; locals = given ++ replicate (c.locals - length given) value.Unset; owns = []; frees = cells; carried = value.None })
+    if nat_le (length c.header.params) (length given) && nat_le c.frees (length cells)
+    then Some (record { code = code; locals = take (length c.header.params) given ++ replicate (c.locals - length c.header.params) value.Unset; owns = []; frees = take c.frees cells; carried = value.None })
     else None
 
 abbrev pub language : Rules → ℕ → List syntax.Code → L

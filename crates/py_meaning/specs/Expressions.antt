@@ -1,14 +1,14 @@
 -- What expressions do, row by row (reference, chapter 6). Operands are evaluated from left to right (section 6.16).
-use Rattle.std.specs.Prelude.{ℕ, ◌+◌, ℤ, pos, List, [], ◌∷◌, ◌++◌, map, Option, Some, None, Bool, true, false, if◌then◌else◌, codes}
+use Rattle.std.specs.Prelude.{ℕ, pos, List, [], ◌∷◌, map, Option, Some, None, Bool, true, false, if◌then◌else◌, codes, slice_get}
 use Rattle.nu_value.specs.declared.value.Value.{Value}
 use Rattle.nu_value.specs.declared.value.Value.TheVariants as value
-use Rattle.op_rules.specs.declared.op.Op.{Op}
 use Rattle.op_rules.specs.declared.op.Op.TheVariants as op
-use Rattle.nu_rows.specs.Rows.{End, Next, Leave, Raised, Return, Stopped, Undefined, Row, Then, Loop, Sub}
+use Rattle.nu_rows.specs.Rows.{End, Next, Leave, Raised, Return, Stopped, Undefined, Act, Then, Loop, Sub}
 use Rattle.nu_rows.specs.Words.{then_value, ends_with, choose}
-use Rattle.nu_calls.specs.Calls.{State, Language, operates, operate, on_line, yields}
+use Rattle.nu_calls.specs.Exceptions.{class_of}
+use Rattle.nu_calls.specs.Calls.{operates, operate, on_line, yields}
 use Rattle.py_meaning.specs.Syntax as syntax
-use Rattle.py_meaning.specs.Frames.{Frame, Item, DelegateTurn, R, L, reads, changes, with_carried, text, load, cell_of}
+use Rattle.py_meaning.specs.Frames.{DelegateTurn, R, L, reads, uses, changes, with_carried, text, load, cell_of}
 
 abbrev pub gives : Value → R
 gives v = ends_with (Next v)
@@ -22,9 +22,17 @@ truth l line v = operate l line op.Truth (v ∷ [])
 abbrev pub is_one_of : L → ℕ → List ℕ → ℕ → R
 is_one_of l line class x = then_value (operate l line op.Native (text class ∷ [])) (λ c. operate l line op.Match (value.Obj x ∷ c ∷ []))
 
+-- an exception is raised as it stands, without an entry; nothing is said of other objects
+abbrev pub again : ℕ → Option ℕ → End
+again x (Some class) = Raised x
+again x None = Undefined
+
+abbrev pub raise_again : ℕ → R
+raise_again x = Act (λ s. record { out = []; state = s; end = again x (class_of (slice_get s.around.world.heap x)) })
+
 abbrev pub stopped_or : L → ℕ → (Value → R) → (ℕ → R) → End → R
 stopped_or l line more over (Next v) = more v
-stopped_or l line more over (Raised x) = then_value (is_one_of l line (codes "StopIteration") x) (λ b. choose b (over x) (ends_with (Raised x)))
+stopped_or l line more over (Raised x) = then_value (is_one_of l line (codes "StopIteration") x) (λ b. choose b (over x) (raise_again x))
 stopped_or l line more over (Leave n) = ends_with (Leave n)
 stopped_or l line more over (Return v) = ends_with (Return v)
 stopped_or l line more over (Stopped kind) = ends_with (Stopped kind)
@@ -38,9 +46,6 @@ abbrev pub next : L → ℕ → Value → R
 next l line iterator = operate l line op.Next (iterator ∷ [])
 
 -- `yield from` (reference, section 6.2.9; PEP 380)
-
-abbrev pub raise_again : ℕ → R
-raise_again x = ends_with (Raised x)
 
 -- the inner iterator gave a value, which is yielded in the next turn
 abbrev pub delegates : Value → R
@@ -82,7 +87,7 @@ woken l line iterator e = ends_with e
 
 -- the carried value is yielded, and what comes back is handed on
 abbrev pub delegate_turn : L → ℕ → Value → R
-delegate_turn l line iterator = then_value (reads (λ f. f.carried)) (λ v. Then (yields l line v) (woken l line iterator))
+delegate_turn l line iterator = then_value (reads (λ f. f.carried)) (λ v. uses v (λ w. Then (yields l line w) (woken l line iterator)))
 
 abbrev pub delegate_loop : L → ℕ → Value → R
 delegate_loop l line iterator = Loop (delegate_turn l line iterator) (DelegateTurn line iterator)
@@ -159,7 +164,7 @@ abbrev mutual
       then_value (expression l x) (λ v. then_value (operate l line op.Iter (v ∷ [])) (λ iterator.
       then_value (bare_function l line code cells) (λ f. operate l line op.Call (f ∷ iterator ∷ []))))
   -- section 6.2.9
-  expression l (syntax.Yield line x) = then_value (expression l x) (yields l line)
+  expression l (syntax.Yield line x) = then_value (expression l x) (λ v. uses v (yields l line))
   expression l (syntax.YieldFrom line x) = then_value (expression l x) (delegate l line)
 
   -- all these, and what follows their values

@@ -1,9 +1,9 @@
 -- Frames of running codes, and the names in them.
-use Rattle.std.specs.Prelude.{ℕ, ◌+◌, List, [], ◌∷◌, ◌++◌, Option, Some, None, slice_get, slice_set}
+use Rattle.std.specs.Prelude.{ℕ, List, [], ◌∷◌, ◌++◌, Option, Some, None, slice_get, slice_set}
 use Rattle.nu_value.specs.declared.value.Value.{Value}
 use Rattle.nu_value.specs.declared.value.Value.TheVariants as value
 use Rattle.op_rules.specs.declared.op.Op.TheVariants as op
-use Rattle.nu_rows.specs.Rows.{Next, Row, Act}
+use Rattle.nu_rows.specs.Rows.{End, Next, Undefined, Row, Act}
 use Rattle.nu_rows.specs.Words.{then_value, quiet, ends_with}
 use Rattle.nu_calls.specs.Calls.{State, state_of, Language, operate}
 use Rattle.py_meaning.specs.Syntax as syntax
@@ -43,6 +43,14 @@ at vs place = value_or_unset (slice_get vs place)
 -- something of the frame
 abbrev pub reads : (Frame → Value) → R
 reads f = Act (λ s. record { out = []; state = s; end = Next (f s.frame) })
+
+-- a value that is yielded or returned; nothing is said of Unset
+abbrev pub used : Value → End
+used value.Unset = Undefined
+used v = Next v
+
+abbrev pub uses : Value → (Value → R) → R
+uses v k = then_value (ends_with (used v)) k
 
 -- the frame is another
 abbrev pub changes : (Frame → Frame) → R

@@ -6,4 +6,6 @@ pub mod Bodies
 pub mod Scopes
 pub mod Resolved
 pub mod Script
+pub mod Own
+pub mod Texts
 pub mod Laws

@@ -1,5 +1,5 @@
 -- The codes of a resolved script: what each construct is evaluated as. Scopes have their numbers in the order of the text.
-use Rattle.std.specs.Prelude.{ℕ, ◌+◌, pos, Bool, true, false, List, [], ◌∷◌, ◌++◌, map, length, Option, Some, None, slice_get, codes, if◌then◌else◌}
+use Rattle.std.specs.Prelude.{ℕ, ◌+◌, Bool, true, false, List, [], ◌∷◌, ◌++◌, map, length, Option, Some, None, slice_get, codes, if◌then◌else◌}
 use Rattle.std.specs.List.{list_any}
 use Rattle.nu_value.specs.declared.header.Header.{Header}
 use Rattle.nu_value.specs.declared.header.ParamKind.{ParamKind}

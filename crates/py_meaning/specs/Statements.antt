@@ -1,15 +1,15 @@
 -- What statements do, row by row (reference, chapters 7 and 8). A statement that ends gives None; `continue` and `break` leave the
 -- innermost loop as ends of its body.
-use Rattle.std.specs.Prelude.{ℕ, zero, suc, ◌+◌, pos, List, [], ◌∷◌, Option, Some, None, reverse, codes}
+use Rattle.std.specs.Prelude.{ℕ, zero, suc, ◌+◌, pos, List, [], ◌∷◌, Option, Some, None, codes}
 use Rattle.nu_value.specs.declared.value.Value.{Value}
 use Rattle.nu_value.specs.declared.value.Value.TheVariants as value
 use Rattle.op_rules.specs.declared.op.Op.{Op}
 use Rattle.op_rules.specs.declared.op.Op.TheVariants as op
-use Rattle.nu_rows.specs.Rows.{End, Next, Leave, Raised, Return, Stopped, Undefined, Row, Part, Then, Loop}
+use Rattle.nu_rows.specs.Rows.{End, Next, Leave, Raised, Return, Stopped, Undefined, Then, Loop}
 use Rattle.nu_rows.specs.Words.{then_value, ends_with, choose}
 use Rattle.nu_calls.specs.Calls.{operate}
 use Rattle.py_meaning.specs.Syntax as syntax
-use Rattle.py_meaning.specs.Frames.{Item, WhileTurn, ForTurn, R, L, text, load, store, unbind}
+use Rattle.py_meaning.specs.Frames.{WhileTurn, ForTurn, R, L, uses, text, load, store, unbind}
 use Rattle.py_meaning.specs.Expressions.{gives, truth, unless_stopped, next, raise_again, bare_function, expression, each}
 
 -- Targets (reference, section 7.2)
@@ -72,6 +72,9 @@ abbrev mutual
   delete_each l syntax.NoTarget = gives value.None
   delete_each l (syntax.AlsoTo t ts) = then_value (delete l t) (λ w. delete_each l ts)
 
+abbrev pub returns : Value → R
+returns v = uses v (λ w. ends_with (Return w))
+
 -- Loops (reference, sections 8.2 and 8.3)
 
 -- an end of a loop's body, as the end of a turn: a value and `continue` lead to the next turn, `break` ends the loop
@@ -107,8 +110,12 @@ for_turn l line iterator target body =
 -- `try` and `finally` (reference, section 8.4)
 
 -- the end that was pending goes on, where the clause ends by itself; any other end of the clause takes its place
+abbrev pub goes_on : End → R
+goes_on (Raised x) = raise_again x
+goes_on e = ends_with e
+
 abbrev pub pending : End → End → R
-pending e (Next v) = ends_with e
+pending e (Next v) = goes_on e
 pending e other = ends_with other
 
 -- a clause that always runs; a stop ends all
@@ -192,7 +199,7 @@ abbrev mutual
   statement l handled syntax.Pass = gives value.None
   statement l handled syntax.Break = ends_with (Leave 1)
   statement l handled syntax.Continue = ends_with (Leave 0)
-  statement l handled (syntax.Return x) = then_value (expression l x) (λ v. ends_with (Return v))
+  statement l handled (syntax.Return x) = then_value (expression l x) returns
   statement l handled (syntax.Raise line x) = then_value (expression l x) (raise l line)
   statement l handled syntax.Reraise = reraise handled
   statement l handled (syntax.Assert line test texts) =

@@ -111,20 +111,17 @@ fn finished(
 }
 
 /// What an operation gives, raises or stops with, from the value of the function that it asked, and the world after it. A sound
-/// world stays sound, and the end names only objects of it.
+/// world stays sound, and the end names only objects of it, where the value and what is to become of it do.
 pub fn finish(
     alloc: Global,
     world: &mut World,
     after: After,
     value: Value,
 ) -> Result<OpEnd, AllocError>
-    requires sound { Sound world.old }
-    requires after { AfterIn world.old.heap after }
-    requires value { IsIn world.old.heap value }
     ensures end { IfOk result (λ e. e ≡ (spec.finished after world.old value).end) }
     ensures world { OnOk result (world.new ≡ laws.after world.old (spec.finished after world.old value)) }
-    ensures sound { OnOk result (Sound world.new) }
-    ensures names { IfOk result (λ e. EndIn world.new.heap e) }
+    ensures sound { Sound world.old → AfterIn world.old.heap after → IsIn world.old.heap value → OnOk result (Sound world.new) }
+    ensures names { Sound world.old → AfterIn world.old.heap after → IsIn world.old.heap value → IfOk result (λ e. EndIn world.new.heap e) }
 {
     finishing_keeps_sound();
     finished(alloc, world, after, value)

@@ -77,11 +77,10 @@ fn by_family(alloc: Global, op: Op, world: &mut World, args: &[Value]) -> Result
 /// names only objects of it.
 pub fn apply(alloc: Global, op: Op, world: &mut World, args: &[Value]) -> Result<OpEnd, AllocError>
     requires fit { fits op world.old args.now ≡ true }
-    requires sound { Sound world.old }
     ensures end { IfOk result (λ e. e ≡ (spec.row op world.old args.now).end) }
     ensures world { OnOk result (world.new ≡ after world.old (spec.row op world.old args.now)) }
-    ensures sound { OnOk result (Sound world.new) }
-    ensures names { IfOk result (λ e. EndIn world.new.heap e) }
+    ensures sound { Sound world.old → OnOk result (Sound world.new) }
+    ensures names { Sound world.old → IfOk result (λ e. EndIn world.new.heap e) }
 {
     rows_keep_sound();
     table_row(alloc, op, world, args)

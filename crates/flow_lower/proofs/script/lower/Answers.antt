@@ -3,7 +3,9 @@ use Rattle.std.proofs.Math.Seq.{drop-cons}
 use Rattle.node_tree.specs.declared.script.NodeCode.{NodeCode}
 use Rattle.flow_lower.specs.Correct.{LowersEach}
 use Rattle.flow_lower.proofs.Emitted.{each_more, each_end}
+use Rattle.flow_lower.proofs.Kept.{keeps_each}
 use Rattle.flow_lower.proofs.Scripts.{lowers_same}
+use Rattle.flow_lower.proofs.WellFormed.{all_well_formed, all_there}
 use Rattle.flow_lower.proofs.script.lower.Goals as goal
 
 pub loop-code-preserved : goal.loop-code-preserved
@@ -25,3 +27,12 @@ returns-clause-lowers c = record {
 
 pub returns-clause-same : goal.returns-clause-same
 returns-clause-same c = lowers_same c.args.script.now _ (returns-clause-lowers c)
+
+pub returns-clause-well_formed : goal.returns-clause-well_formed
+returns-clause-well_formed c = all_well_formed c.args.script.now.codes _ (returns-clause-lowers c).functions
+
+pub returns-clause-there : goal.returns-clause-there
+returns-clause-there c = all_there c.args.script.now.codes _ (returns-clause-lowers c).functions
+
+pub returns-clause-keeps : goal.returns-clause-keeps
+returns-clause-keeps c = keeps_each c.args.script.now.codes _ (returns-clause-lowers c).functions

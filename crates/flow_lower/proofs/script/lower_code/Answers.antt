@@ -1,6 +1,7 @@
-use Rattle.std.proofs.Common.{length, refl, ap, ◌∙◌, arith}
+use Rattle.std.proofs.Common.{length, refl, sym, ap, ◌∙◌, arith}
 use Rattle.node_tree.specs.Tree.{block}
 use Rattle.flow_code.specs.declared.statement.Statement.TheVariants as flat
+use Rattle.flow_code.specs.Registers.{registers, above}
 use Rattle.flow_lower.specs.Lower.{labels, copies, function_lines}
 use Rattle.flow_lower.proofs.Emitted.{emit_function}
 use Rattle.flow_lower.proofs.script.lower_code.Goals as goal
@@ -12,6 +13,7 @@ returns c = record {
   generator = refl;
   line = refl;
   labels = omega (arith, c.len-2.ensures, c.in_ok-lower_nodes.ensures.drawn, c.in_ok-fail.ensures.drawn, c.new-labels.ensures.len, ap (λ l. labels (block l)) c.as_slice.ensures);
+  registers = c.in_ok-registers.ensures ∙ ap (λ ls. above (registers ls)) (c.deref.ensures.value ∙ sym c.from_vec.ensures);
   body =
       c.from_vec.ensures
       ∙ emit_function (length c.args.code.now.params) c.args.code.now.free _ _ _ _ c.as_slice.result.now _ _ _ _ _ _ c.new-labels.ensures.len c.in_ok-fail.ensures.number c.in_ok-fail.ensures.drawn c.new-exits.ensures.items

@@ -9,19 +9,20 @@ use Rattle.nuit_lib.proofs.building.build.Goals as goal
 pub returns-in-Err-Refused : goal.returns-in-Err-Refused
 returns-in-Err-Refused g c =
     said_writes _ _ _ _ _ status.Refused _ (λ w. w) (record { held = refl; faults = refl }) refl
-    (c.requires, (λ a. (rw c.in-Err-Refused.field-0-is at c.in-Err-Refused.ensures.refused) a.is.values a.is.source), c.in-Err-Refused.line, record { silent = refl; said = refl })
+    (c.requires, c.in-Err-Refused.kind, c.in-Err-Refused.line, rw c.in-Err-Refused.field-0-is at c.in-Err-Refused.ensures, record { silent = refl; said = refl })
     c.refuse.ensures
 
 pub returns-in-Ok-put : goal.returns-in-Ok-put
 returns-in-Ok-put g c =
-    let source = c.in-Ok.ensures.source in
-    let count = c.in-Ok.ensures.count in
+    let calls = c.in-Ok.ensures in
+    let within = c.in-Ok.calls.ok in
+    let small = c.in-Ok.calls.small in
     record {
       text = c.as_bytes.result.now;
       message = [];
       is_due = (
-        accepted _ _ c.requires source,
-        built _ _ _ _ c.utf8.name source (omega (arith, count, c.requires)) (c.as_bytes.ensures.value ∙ c.in-Ok-write_program.ensures ∙ ap (λ l. program_text (program_of c.args.name.now l)) c.deref.ensures.value),
+        accepted _ _ c.requires calls,
+        built _ _ _ _ c.utf8.name calls (omega (arith, within, small)) (c.as_bytes.ensures.value ∙ c.in-Ok-write_program.ensures ∙ ap (λ l. program_text (program_of c.args.name.now l)) c.deref.ensures.value),
         refl,
       );
       got = record { held = c.in-Ok-put.ensures.bytes; faults = c.in-Ok-put.ensures.count };
@@ -30,15 +31,16 @@ returns-in-Ok-put g c =
 
 pub returns-in-Err-Failed : goal.returns-in-Err-Failed
 returns-in-Err-Failed g c =
-    let source = c.in-Ok.ensures.source in
-    let count = c.in-Ok.ensures.count in
+    let calls = c.in-Ok.ensures in
+    let within = c.in-Ok.calls.ok in
+    let small = c.in-Ok.calls.small in
     record {
       answer = status.Done;
       text = c.as_bytes.result.now;
       message = [];
       is_due = (
-        accepted _ _ c.requires source,
-        built _ _ _ _ c.utf8.name source (omega (arith, count, c.requires)) (c.as_bytes.ensures.value ∙ c.in-Ok-write_program.ensures ∙ ap (λ l. program_text (program_of c.args.name.now l)) c.deref.ensures.value),
+        accepted _ _ c.requires calls,
+        built _ _ _ _ c.utf8.name calls (omega (arith, within, small)) (c.as_bytes.ensures.value ∙ c.in-Ok-write_program.ensures ∙ ap (λ l. program_text (program_of c.args.name.now l)) c.deref.ensures.value),
         refl,
       );
       which = inl (

@@ -1,5 +1,5 @@
-use Rattle.std.proofs.Common.{arith, ◌≡◌, ◌∙◌, sym, ap, subst, length, drop}
-use Rattle.py_grammar.specs.Levels.{mark, follows_expression}
+use Rattle.std.proofs.Common.{arith, ◌∙◌, sym, ap, subst}
+use Rattle.py_grammar.specs.Levels.{follows_expression}
 use Rattle.py_grammar.specs.Grammar.{Expression}
 use Rattle.py_grammar.specs.Parse.{read_level, Refuses}
 use Rattle.py_grammar.proofs.Places.{answers_err, answers_other, is_there, from_place, shorter}

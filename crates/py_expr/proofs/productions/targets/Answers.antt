@@ -1,5 +1,5 @@
-use Rattle.std.proofs.Common.{arith, ◌≡◌, ◌∙◌, sym, ap, subst, length, drop}
-use Rattle.py_grammar.specs.Levels.{mark, follows_targets}
+use Rattle.std.proofs.Common.{arith, ◌∙◌, sym, ap, subst}
+use Rattle.py_grammar.specs.Levels.{follows_targets}
 use Rattle.py_grammar.specs.Grammar.{Targets}
 use Rattle.py_grammar.specs.Parse.{read_targets, Refuses}
 use Rattle.py_grammar.proofs.Places.{answers_err, answers_other, is_there, from_place, shorter}

@@ -1,59 +1,70 @@
 use Rattle.std.proofs.Common.{◌≡◌, ◌+◌, [], ◌++◌, refl, sym, ◌∙◌, ap, subst, arith, rules, None, Err}
+use Rattle.nu_calls.specs.Rules.{table_rules}
+use Rattle.c_meaning.specs.Step.{step}
 use Rattle.c_machine.specs.Machines.{answer_at_rest}
 use Rattle.c_machine.specs.Calls.{Runs, Walks, counted}
+use Rattle.c_machine.specs.Standing.{Outside, state_of, stands, printing}
 use Rattle.c_machine.proofs.Sinks.{adds_nothing, adds_more}
-use Rattle.c_machine.proofs.Stretches.{Stretch, rest_none, rest_ended, at_work, answer_more, answer_ended, stretch_on, stretch_end, stretch_rest, run_goes, run_ends, runs_cut, counted_more}
+use Rattle.c_machine.proofs.Stretches.{Stretch, rest_none, rest_ended, at_work, answer_more, answer_ended, stretch_on, stretch_end, stretch_rest, run_goes, run_ends, runs_cut_at, counted_more}
 use Rattle.c_machine.proofs.machine.Machine.run.Goals as goal
 
 pub returns-in-Some-clause-runs : goal.returns-in-Some-clause-runs
-returns-in-Some-clause-runs g c = λ p holds works left.
+returns-in-Some-clause-runs g c = λ works left.
     let m = c.args.self.now in
     let end = rest_ended m.failed m.standing.end c.in-Some.answer c.in-Some.ensures works in
     subst (Runs _ _ _ m.standing.end) (sym end.2)
-    ([], end.0, run_ends p c.args.steps 0 m.standing m.standing [] left end.0 end.1 (stretch_rest p c.args.steps m.standing end.0 end.1), end.1, adds_nothing _)
+    ([], end.0, run_ends c.args.self.now.code c.args.steps 0 m.standing m.standing [] left end.0 end.1 (stretch_rest c.args.self.now.code c.args.steps m.standing end.0 end.1), end.1, adds_nothing _)
 
 pub returns-in-Some-clause-walks : goal.returns-in-Some-clause-walks
-returns-in-Some-clause-walks g c = λ p holds works.
+returns-in-Some-clause-walks g c = λ works.
     let m = c.args.self.now in
     let end = rest_ended m.failed m.standing.end c.in-Some.answer c.in-Some.ensures works in
-    subst (Walks p c.args.steps m m) (sym end.2) (0, [], record { leads = stretch_rest p c.args.steps m.standing end.0 end.1; steps = refl })
+    subst (Walks c.args.self.now.code c.args.steps m m) (sym end.2) (0, [], record { leads = stretch_rest c.args.self.now.code c.args.steps m.standing end.0 end.1 }, refl)
 
 pub returns-in_err-step-clause-runs : goal.returns-in_err-step-clause-runs
-returns-in_err-step-clause-runs g c = λ p holds works left.
+returns-in_err-step-clause-runs g c = λ works left.
     let before = c.loop-taken.invariant in
-    let stretch = before.stretch p holds in
+    let stretch = before.stretch in
     let begins : c.args.self.now.standing.end ≡ None = (let rest : answer_at_rest c.args.self.now ≡ None = cc in (rest_none _ _ rest).1) in
     let going = (rest_none _ _ before.works).1 in
-    let taken = c.in_err-step.ensures.takes p (before.bodies ∙ holds) before.works in
-    let runs = runs_cut p c.args.steps c.loop-taken.taken c.args.self.now.standing c.loop-taken.self.standing c.step.new.self.standing stretch.0 left _ _ _ c.step.new.self.standing.end c.loop-taken-test.true begins going stretch.2 stretch.1 _ taken in
+    let runs = runs_cut_at c.args.self.now.code c.loop-taken.self.code before.code c.args.steps c.loop-taken.taken c.args.self.now.standing c.loop-taken.self.standing c.step.new.self.standing stretch.0 left _ _ _ c.step.new.self.standing.end c.loop-taken-test.true begins going stretch.2 stretch.1 _ (c.in_err-step.ensures.takes before.works) in
     let same : Err c.in_err-step.field-0.0 ≡ c.from_residual.result = search rules in
     subst (Runs _ _ _ c.step.new.self.standing.end) same runs
 
-pub returns-in-Ended-clause-runs : goal.returns-in-Ended-clause-runs
-returns-in-Ended-clause-runs g c = λ p holds works left.
+pub returns-in_err-step-clause-walks : goal.returns-in_err-step-clause-walks
+returns-in_err-step-clause-walks g c = λ works.
     let before = c.loop-taken.invariant in
-    let stretch = before.stretch p holds in
+    let stretch = before.stretch in
     let going = (rest_none _ _ before.works).1 in
-    let now = (rw c.in-Ended.is at c.in_ok-step.ensures).takes p (before.bodies ∙ holds) before.works in
-    let end = answer_ended _ now.answers in
-    let all = stretch_end p (c.loop-taken.taken + 1) c.args.steps (c.loop-taken.taken + 1) _ _ _ end.0 (omega (arith, c.loop-taken-test.true)) end.1 (stretch_on p c.loop-taken.taken _ _ _ _ _ going stretch.2 now.leads) in
-    (stretch.0 ++ now.piece, end.0, run_ends p c.args.steps (c.loop-taken.taken + 1) _ _ _ left end.0 end.1 all, end.1, adds_more _ _ _ _ _ stretch.1 now.adds)
+    let gave = c.in_err-step.ensures.err before.works in
+    let same : Err c.in_err-step.field-0.0 ≡ c.from_residual.result = search rules in
+    subst (Walks c.args.self.now.code c.args.steps c.args.self.now c.step.new.self) same
+    (c.loop-taken.taken, stretch.0, c.loop-taken.self.standing, c.loop-taken-test.true, going, record { leads = stretch.2 }, gave.steps ∙ before.steps, gave.end ∙ going)
 
-pub returns-in-Ended-clause-walks : goal.returns-in-Ended-clause-walks
-returns-in-Ended-clause-walks g c = λ p holds works.
+pub returns-in-Ended-clause-runs : goal.returns-in-Ended-clause-runs
+returns-in-Ended-clause-runs g c = λ works left.
     let before = c.loop-taken.invariant in
-    let stretch = before.stretch p holds in
+    let stretch = before.stretch in
     let going = (rest_none _ _ before.works).1 in
     let said = rw c.in-Ended.is at c.in_ok-step.ensures in
-    let now = said.takes p (before.bodies ∙ holds) before.works in
-    let end = answer_ended _ now.answers in
-    let all = stretch_end p (c.loop-taken.taken + 1) c.args.steps (c.loop-taken.taken + 1) _ _ _ end.0 (omega (arith, c.loop-taken-test.true)) end.1 (stretch_on p c.loop-taken.taken _ _ _ _ _ going stretch.2 now.leads) in (
+    let now = said.takes before.works in
+    let end = answer_ended _ said.answers in
+    let all = stretch_end c.args.self.now.code (c.loop-taken.taken + 1) c.args.steps (c.loop-taken.taken + 1) _ _ _ end.0 (omega (arith, c.loop-taken-test.true)) end.1 (stretch_on c.args.self.now.code c.loop-taken.taken _ _ _ _ _ going stretch.2 (subst (λ k. (w : Outside) → step table_rules k (state_of c.loop-taken.self.standing.execution w) ≡ stands c.step.new.self.standing (printing w now.piece)) before.code now.leads)) in
+    (stretch.0 ++ now.piece, end.0, run_ends c.args.self.now.code c.args.steps (c.loop-taken.taken + 1) _ _ _ left end.0 end.1 all, end.1, adds_more _ _ _ _ _ stretch.1 now.adds)
+
+pub returns-in-Ended-clause-walks : goal.returns-in-Ended-clause-walks
+returns-in-Ended-clause-walks g c = λ works.
+    let before = c.loop-taken.invariant in
+    let stretch = before.stretch in
+    let going = (rest_none _ _ before.works).1 in
+    let said = rw c.in-Ended.is at c.in_ok-step.ensures in
+    let now = said.takes before.works in
+    let end = answer_ended _ said.answers in
+    let all = stretch_end c.args.self.now.code (c.loop-taken.taken + 1) c.args.steps (c.loop-taken.taken + 1) _ _ _ end.0 (omega (arith, c.loop-taken-test.true)) end.1 (stretch_on c.args.self.now.code c.loop-taken.taken _ _ _ _ _ going stretch.2 (subst (λ k. (w : Outside) → step table_rules k (state_of c.loop-taken.self.standing.execution w) ≡ stands c.step.new.self.standing (printing w now.piece)) before.code now.leads)) in (
       c.loop-taken.taken + 1,
       stretch.0 ++ now.piece,
-      record {
-        leads = all;
-        steps = said.steps before.works ∙ ap (λ n. counted n 1) before.steps ∙ counted_more c.args.self.now.steps c.loop-taken.taken;
-      },
+      record { leads = all },
+      said.steps before.works ∙ ap (λ n. counted n 1) before.steps ∙ counted_more c.args.self.now.steps c.loop-taken.taken,
     )
 
 pub loop-taken-preserved : goal.loop-taken-preserved
@@ -62,21 +73,28 @@ loop-taken-preserved g c =
     let said = rw c.in-More.is at c.in_ok-step.ensures in
     let going = (rest_none _ _ before.works).1 in
     record {
-      bodies = said.bodies ∙ before.bodies;
+      code = said.code ∙ before.code;
       works = at_work _ _ said.fails (answer_more _ said.answers);
       steps = said.steps before.works ∙ ap (λ n. counted n 1) before.steps ∙ counted_more c.args.self.now.steps c.loop-taken.taken;
       input = said.input ∙ before.input;
       faults = said.count ∙ before.faults;
-      stretch = λ p holds.
-          let stretch = before.stretch p holds in
-          let now = said.takes p (before.bodies ∙ holds) before.works in
-          (stretch.0 ++ now.piece, adds_more _ _ _ _ _ stretch.1 now.adds, stretch_on p c.loop-taken.taken _ _ _ _ _ going stretch.2 now.leads);
+      stretch =
+          let stretch = before.stretch in
+          let now = said.takes before.works in
+          (stretch.0 ++ now.piece, adds_more _ _ _ _ _ stretch.1 now.adds, stretch_on c.args.self.now.code c.loop-taken.taken _ _ _ _ _ going stretch.2 (subst (λ k. (w : Outside) → step table_rules k (state_of c.loop-taken.self.standing.execution w) ≡ stands c.step.new.self.standing (printing w now.piece)) before.code now.leads));
     }
 
 pub returns-clause-runs : goal.returns-clause-runs
-returns-clause-runs g c = λ p holds works left.
+returns-clause-runs g c = λ works left.
     let before = c.loop-taken.invariant in
-    let stretch = before.stretch p holds in
+    let stretch = before.stretch in
     let going = (rest_none _ _ before.works).1 in
     let all : c.loop-taken.taken ≡ c.args.steps = omega (arith, c.loop-taken-test.false, c.loop-taken.auto.taken-end) in
-    (stretch.0, run_goes p c.args.steps c.loop-taken.taken _ _ stretch.0 left going (subst (λ n. Stretch p n c.loop-taken.taken c.args.self.now.standing c.loop-taken.self.standing stretch.0) all stretch.2), going, stretch.1)
+    (stretch.0, run_goes c.args.self.now.code c.args.steps c.loop-taken.taken _ _ stretch.0 left going (subst (λ n. Stretch c.args.self.now.code n c.loop-taken.taken c.args.self.now.standing c.loop-taken.self.standing stretch.0) all stretch.2), going, stretch.1)
+
+pub returns-clause-walks : goal.returns-clause-walks
+returns-clause-walks g c = λ works.
+    let before = c.loop-taken.invariant in
+    let stretch = before.stretch in
+    let all : c.loop-taken.taken ≡ c.args.steps = omega (arith, c.loop-taken-test.false, c.loop-taken.auto.taken-end) in
+    (c.loop-taken.taken, stretch.0, record { leads = subst (λ n. Stretch c.args.self.now.code n c.loop-taken.taken c.args.self.now.standing c.loop-taken.self.standing stretch.0) all stretch.2 }, before.steps)

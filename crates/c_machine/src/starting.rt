@@ -1,0 +1,135 @@
+//! How a machine starts: the code that it runs, and the world of operations.
+
+ghost use Rattle.std.specs.Prelude.{◌≡◌, ◌++◌, ◌∷◌, [], IfOk, map, reverse};
+ghost use Rattle.nu_calls.specs.Rules.{table_rules};
+ghost use Rattle.nu_value.specs.declared.object.Object.TheVariants as object;
+ghost use Rattle.op_rules.specs.Start.{first_objects};
+ghost use Rattle.nu_value.specs.Natives.{native_classes};
+ghost use Rattle.c_meaning.specs.Code as spec;
+ghost use Rattle.c_meaning.specs.Run as runs;
+ghost use Rattle.c_machine.specs.Starting.{first_execution};
+ghost use Rattle.c_machine.specs.Standing.{Outside, state_of, follows};
+
+use crate::execution::{Execution, SCRIPT_NAMES};
+use crate::placing::statements_of;
+use c_meaning::{Body, CEnd, CProgram, Code, Function};
+use nu_text::RcStr;
+use nu_value::{Codes, Header, Heap, Names, Object, Slots, Value};
+use op_rules::World;
+use sqlite_items::Items;
+use std::alloc::{AllocError, Global};
+
+/// The code of a program, and the headers of its functions.
+pub(crate) fn code_of(alloc: Global, program: CProgram) -> Result<(Code, Codes), AllocError>
+    ensures { IfOk result (λ both. (both.0 ≡ spec.code_of program) × (both.1 ≡ map runs.header_of program.functions)) }
+{
+    let CProgram {
+        name,
+        scripts,
+        functions,
+        ..
+    } = program;
+    let (bodies, headers) = parts_of(alloc, functions)?;
+    let code = Code {
+        file: name,
+        scripts,
+        bodies,
+    };
+    Ok((code, codes_of(alloc, headers)?))
+}
+
+// What runs of functions, and their headers from the last to the first.
+fn parts_of(
+    alloc: Global,
+    mut functions: Items<Function>,
+) -> Result<(Items<Body>, Vec<Header>), AllocError>
+    ensures { IfOk result (λ both. (both.0 ≡ map spec.body_of functions) × (reverse both.1.items ≡ map runs.header_of functions)) }
+{
+    let mut backwards = Vec::new(alloc);
+    let mut headers = Vec::new(alloc);
+    while let Some(function) = functions.pop() {
+        let Function {
+            header,
+            slots,
+            registers,
+            body,
+        } = function;
+        headers.push(header)?;
+        backwards.push(Body {
+            slots,
+            registers,
+            statements: statements_of(alloc, body)?,
+        })?;
+    }
+    backwards.reverse();
+    Ok((Items::from_vec(backwards), headers))
+}
+
+fn codes_of(alloc: Global, mut backwards: Vec<Header>) -> Result<Codes, AllocError>
+    ensures { IfOk result (λ codes. codes ≡ reverse backwards.items) }
+{
+    let mut codes = Codes::new(alloc);
+    while let Some(header) = backwards.pop() {
+        codes.push(header)?;
+    }
+    Ok(codes)
+}
+
+// A space with one name.
+fn space(alloc: Global, name: &str, value: Value) -> Result<Object, AllocError>
+    ensures { IfOk result (λ o. o ≡ object.Space ((name.now, value) ∷ [])) }
+{
+    let mut names = Names::new(alloc);
+    names.set(RcStr::from_str(alloc, name)?, value)?;
+    Ok(Object::Space(names))
+}
+
+fn first_heap(alloc: Global) -> Result<Heap, AllocError>
+    ensures { IfOk result (λ heap. heap ≡ native_classes ++ first_objects) }
+{
+    let mut heap = Heap::new(alloc)?;
+    heap.make(space(alloc, "print", Value::Obj(38))?)?;
+    heap.make(Object::Builtin {
+        name: RcStr::from_str(alloc, "print")?,
+        receiver: Value::Unset,
+    })?;
+    let main = Value::Str(RcStr::from_str(alloc, "__main__")?);
+    heap.make(space(alloc, "__name__", main)?)?;
+    Ok(heap)
+}
+
+impl Execution {
+    /// Before any function has begun.
+    pub(crate) fn new(alloc: Global, codes: Codes) -> Result<Execution, AllocError>
+        ensures { IfOk result (λ x. x ≡ first_execution codes) }
+    {
+        Ok(Execution {
+            function: 0,
+            place: 0,
+            registers: Slots::new(alloc),
+            pending: None,
+            world: World {
+                heap: first_heap(alloc)?,
+                module: SCRIPT_NAMES,
+                builtins: 37,
+                codes,
+            },
+        })
+    }
+
+    /// The module of the built-in text begins, or that of the script where there is none.
+    pub(crate) fn begin_first(
+        &mut self,
+        alloc: Global,
+        code: &Code,
+    ) -> Result<Option<CEnd>, AllocError>
+        ensures { IfOk result (λ end. (w : Outside) → runs.begins_first table_rules code.now (state_of self.old w) ≡ follows end self.new w) }
+    {
+        let number = if (code.scripts as usize) < code.bodies.len() {
+            code.scripts
+        } else {
+            0
+        };
+        self.begin(alloc, code, number)
+    }
+}

@@ -1,0 +1,100 @@
+//! The text of an exception that nothing caught.
+
+ghost use Rattle.std.specs.Prelude.{◌≡◌, ◌++◌, IfOk, OnOk, codes, string_bytes, slice_get, decimal, drop};
+ghost use Rattle.nu_calls.specs.Traceback as spec;
+ghost use Rattle.c_machine.specs.Values.{text_at};
+
+use nu_run::Text;
+use nu_text::RcStr;
+use nu_value::{Entries, Entry, Heap, Object};
+use sqlite_items::Items;
+use std::alloc::{AllocError, Global};
+use std::fmt::Write;
+
+fn push_number(text: &mut String, number: u32) -> Result<(), AllocError>
+    ensures { OnOk result (string_bytes text.new ≡ string_bytes text.old ++ decimal number) }
+{
+    write!(text, "{number}")
+}
+
+fn entry_text(alloc: Global, file: &str, entry: &Entry) -> Result<String, AllocError>
+    ensures { IfOk result (λ text. string_bytes text ≡ spec.entry_text file.now entry.now) }
+{
+    let mut text = String::from_str(alloc, "  File \"")?;
+    text.push_str(file)?;
+    text.push_str("\", line ")?;
+    push_number(&mut text, entry.line)?;
+    text.push_str(", in ")?;
+    text.push_str(entry.scope.as_str())?;
+    text.push_str("\n")?;
+    Ok(text)
+}
+
+// The line of the entry at a place, if there is one.
+#[tactic(auto, using(crate::proofs::Traces::entries_end))]
+fn push_entry(
+    alloc: Global,
+    text: &mut String,
+    file: &str,
+    entries: &Entries,
+    place: usize,
+) -> Result<(), AllocError>
+    ensures { OnOk result (string_bytes text.new ≡ string_bytes text.old ++ text_at file.now (slice_get entries.now place)) }
+{
+    match entries.get(place) {
+        Some(entry) => {
+            let line = entry_text(alloc, file, entry)?;
+            text.push_str(line.as_str())
+        }
+        None => Ok(()),
+    }
+}
+
+fn push_entries(
+    alloc: Global,
+    text: &mut String,
+    file: &str,
+    entries: &Entries,
+) -> Result<(), AllocError>
+    ensures { OnOk result (string_bytes text.new ≡ string_bytes text.old ++ spec.entries_text file.now entries.now) }
+{
+    for place in 0..entries.len() {
+        push_entry(alloc, text, file, entries, place)?;
+    }
+    Ok(())
+}
+
+fn class_name(heap: &Heap, class: u64) -> &str
+    ensures { result.now ≡ spec.name_of (slice_get heap.now class) }
+{
+    match heap.get(class) {
+        Some(Object::Class { name, .. }) => name.as_str(),
+        _ => "",
+    }
+}
+
+// All but the exception's own text.
+fn head_text(alloc: Global, file: &str, heap: &Heap, exception: u64) -> Result<String, AllocError>
+    ensures { IfOk result (λ text. string_bytes text ≡ spec.head_text file.now heap.now exception) }
+{
+    let mut text = String::from_str(alloc, "Traceback (most recent call last):\n")?;
+    if let Some(Object::Exception { class, entries, .. }) = heap.get(exception) {
+        push_entries(alloc, &mut text, file, entries)?;
+        text.push_str(class_name(heap, *class))?;
+    }
+    Ok(text)
+}
+
+/// The text of an exception that has no text of its own.
+pub(crate) fn uncaught_text(
+    alloc: Global,
+    file: &RcStr,
+    heap: &Heap,
+    exception: u64,
+) -> Result<Text, AllocError>
+    ensures { IfOk result (λ text. text ≡ spec.head_text file.now heap.now exception ++ codes "\n") }
+{
+    let mut text = head_text(alloc, file.as_str(), heap, exception)?;
+    text.push_str("\n")?;
+    Items::from_slice(alloc, text.as_bytes())
+}

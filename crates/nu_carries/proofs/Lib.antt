@@ -1,0 +1,12 @@
+pub mod Turns
+pub mod Append
+pub mod Facts
+pub mod Carry
+pub mod Sequence
+pub mod Operations
+pub mod Scripts
+pub mod Small
+pub mod Control
+pub mod Statements
+pub mod Codes
+pub mod Homes

@@ -1,0 +1,12 @@
+//! Branches and loops as primitive statements.
+//!
+//! Each function takes an evaluated test and blocks, and answers a block that carries the whole statement where they carry their parts.
+#![tactic(auto)]
+
+mod branches;
+mod loops;
+#[cfg(test)]
+mod tests;
+
+pub use branches::branch;
+pub use loops::while_loop;

@@ -1,0 +1,64 @@
+//! A target is read, changed by an operation, and stored.
+
+ghost use Rattle.std.specs.Prelude.{◌≡◌, ℕ, ◌+◌, ◌≤◌, [], ◌∷◌, Option, OnOk, IfOk};
+ghost use Rattle.node_tree.specs.Blocks as tree;
+ghost use Rattle.node_tree.specs.Contents.{total};
+ghost use Rattle.node_tree.specs.declared.node.Argument.TheVariants as argument;
+ghost use Rattle.node_tree.specs.declared.node.Operand.TheVariants as operand;
+ghost use Rattle.node_tree.specs.Tree.{block};
+ghost use Rattle.py_meaning.specs.Syntax as syntax;
+ghost use Rattle.nu_carries.specs.Frames.{Homes, behind};
+ghost use Rattle.nu_carries.specs.Carries.{CarriesExpression, CarriesStatement};
+ghost use Rattle.reform_unpack.specs.Places.{value_of, target_of, reads, stores};
+
+use crate::assigned::assign;
+use crate::place::Place;
+use node_tree::{Argument, Block, Node, Operand, Temps};
+use op_rules::Op;
+use reform_base::{Part, ended, joined};
+use reform_expr::name;
+use sqlite_items::Items;
+use std::alloc::{AllocError, Global};
+
+/// The value of a target.
+fn target(alloc: Global, place: &Place, temps: &mut Temps) -> Result<Part, AllocError>
+    ensures carries { IfOk result (λ p. (h : Homes) (low : ℕ) → behind h ≤ low → low ≤ temps.old → CarriesExpression h low temps.new (value_of place.now) (block p.block) p.value) }
+    ensures contents { IfOk result (λ p. (count : tree.Form → ℕ) → total count (block p.block) ≡ count (reads temps.old place.now)) }
+    ensures value { IfOk result (λ p. p.value ≡ operand.Temp temps.old) }
+    ensures drawn { OnOk result (temps.new ≡ temps.old + 1) }
+{
+    let part = name(alloc, place.home().share()?, place.line(), temps)?;
+    Ok(part)
+}
+
+/// An augmented assignment: the target is read, the right side evaluated, the operation done and its value stored (reference,
+/// section 7.2.1).
+///
+/// The right side may write any temporaries that are drawn already.
+///
+/// # Errors
+///
+/// Want of memory alone.
+pub fn augment(
+    alloc: Global,
+    op: Op,
+    place: Place,
+    right: Part,
+    line: u32,
+    temps: &mut Temps,
+) -> Result<Block, AllocError>
+    ensures carries { IfOk result (λ b. (h : Homes) (low mid : ℕ) (caught : Option ℕ) (x : syntax.Expression) → mid ≤ temps.old → CarriesExpression h low mid x (block right.block) right.value → CarriesStatement h low temps.new caught (syntax.Augment line op (target_of place) x) (block b)) }
+    ensures contents { IfOk result (λ b. (count : tree.Form → ℕ) → total count (block b) ≡ count (reads temps.old place) + total count (block right.block) + count (tree.Do (temps.old + 1) line op (argument.Value (operand.Temp temps.old) ∷ argument.Value right.value ∷ [])) + count (stores (temps.old + 2) (operand.Temp (temps.old + 1)) place)) }
+    ensures drawn { OnOk result (temps.new ≡ temps.old + 3) }
+{
+    let read = target(alloc, &place, temps)?;
+    let to = temps.fresh()?;
+    let mut args = Items::new(alloc);
+    args.push(Argument::Value(read.value))?;
+    args.push(Argument::Value(right.value))?;
+    let operands = joined(read.block, right.block)?;
+    let asked = ended(operands, Node::Do { to, line, op, args })?;
+    let stored = assign(alloc, Operand::Temp(to), place, temps)?;
+    let block = joined(asked, stored)?;
+    Ok(block)
+}
