@@ -1,11 +1,10 @@
 -- What `lower_node` appends are the lines of its node.
 use Rattle.std.proofs.lemmas.List.{length-append}
 use Rattle.std.proofs.Common.{◌<◌, ◌-◌, drop, append-nil, subst, ◌≡◌, ℕ, zero, suc, ◌+◌, ◌≤◌, List, [], ◌∷◌, ◌++◌, length, get_or, refl, sym, ap, ◌∙◌, arith, append_assoc}
-use mathlib.Core.Former.{Count}
-use Rattle.node_tree.specs.declared.node.Node.{Node, If, Loop, Loop', Catch, Row_of-Node, end_of-Node, more_of-Node, items-the_row-Node, items_hidden-the_row-Node-0}
+use Rattle.node_tree.specs.declared.node.Node.{Node, If, Loop, Catch}
 use Rattle.node_tree.specs.declared.node.Operand.{Operand}
-use Rattle.node_tree.specs.Blocks as tree
-use Rattle.node_tree.specs.Tree.{form, row_block, block}
+use Rattle.node_tree.specs.Tree.{form, block}
+use Rattle.node_tree.proofs.Forms.{form_loop, form_if, form_catch}
 use Rattle.node_tree.specs.declared.script.NodeCode.{NodeCode}
 use Rattle.flow_code.specs.declared.function.FlatFunction.{FlatFunction}
 use Rattle.flow_code.specs.declared.statement.Line.{Line}
@@ -31,29 +30,6 @@ exit_is xs l k e = exit_at xs k ∙ ap (exit_of xs) (sym e)
 
 pub exit_none : (xs : List ℕ) (l k : ℕ) → l ≡ suc k → length xs ≤ k → 0 ≡ exit_of xs l
 exit_none xs l k e le = exit_past xs k le ∙ ap (exit_of xs) (sym e)
-
-row_is : (m : _) (row : Row_of-Node m) → row_block row ≡ block (items-the_row-Node m row)
-row_is m end_of-Node = refl
-row_is m (more_of-Node x xs) = ap (λ b. tree.Follow (form x) b) (row_is _ xs)
-
-abbrev row_of : Node → (m : Count) × Row_of-Node m
-row_of (Loop' _ row) = (_, row)
-row_of _ = (_, end_of-Node)
-
-abbrev row_list : List Node → tree.Block
-row_list xs = row_block (row_of (Loop xs)).1
-
-list_is : (xs : List Node) → row_list xs ≡ block xs
-list_is xs = let row = row_of (Loop xs) in row_is row.0 row.1 ∙ ap block (items_hidden-the_row-Node-0 xs)
-
-pub form_loop : (xs : List Node) → form (Loop xs) ≡ tree.Loop (block xs)
-form_loop xs = ap tree.Loop (list_is xs)
-
-pub form_if : (t : Operand) (ys zs : List Node) → form (If t ys zs) ≡ tree.If t (block ys) (block zs)
-form_if t ys zs = ap (λ b. tree.If t b (row_list zs)) (list_is ys) ∙ ap (λ b. tree.If t (block ys) b) (list_is zs)
-
-pub form_catch : (t : ℕ) (ys zs : List Node) → form (Catch t ys zs) ≡ tree.Catch t (block ys) (block zs)
-form_catch t ys zs = ap (λ b. tree.Catch t b (row_list zs)) (list_is ys) ∙ ap (λ b. tree.Catch t (block ys) b) (list_is zs)
 
 put_then : (o p : List Line) (x : Line) (tail : List Line) → p ≡ o ++ x ∷ [] → p ++ tail ≡ o ++ x ∷ tail
 put_then o p x tail e = ap (λ l. l ++ tail) e ∙ append_assoc o (x ∷ []) tail
