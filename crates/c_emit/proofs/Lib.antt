@@ -1,1 +1,6 @@
+mod Copied
+mod Kept
+mod Machines
+mod Places
 pub mod Pushes
+mod Texts

@@ -14,7 +14,7 @@ use nu_value::Header;
 use std::alloc::{AllocError, Global};
 
 /// The text of a program: UTF-8 lines, each ended by LF, in the one spelling of each form.
-pub fn emit(alloc: Global, program: &CProgram) -> Result<String, AllocError>
+pub fn write(alloc: Global, program: &CProgram) -> Result<String, AllocError>
     ensures { IfOk result (λ text. string_bytes text ≡ program_text program.now) }
 {
     let mut text = String::new(alloc);

@@ -3,6 +3,7 @@ mod Traces
 mod Arguments
 mod Rows
 mod Operations
+mod InPlace
 mod Modules
 mod Marks
 mod Sinks

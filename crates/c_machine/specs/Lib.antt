@@ -4,6 +4,7 @@ pub mod Light
 pub mod Starting
 pub mod Standing
 pub mod Effects
+pub mod InPlace
 pub mod Walks
 pub mod Machines
 pub mod Calls

@@ -1,5 +1,5 @@
 -- Statements that take no memory: stores, jumps, branches and the script's return, where no text is copied.
-use Rattle.std.specs.Prelude.{ℕ, List, Option, Some, None, Bool, true, false, not, ◌&&◌, nat_eq}
+use Rattle.std.specs.Prelude.{List, Option, Some, None, Bool, true, false, not, ◌&&◌, nat_eq}
 use Rattle.nu_value.specs.declared.value.Value.{Value}
 use Rattle.c_meaning.specs.declared.program.Stored.{Stored}
 use Rattle.c_meaning.specs.declared.program.Stored.TheVariants as stored

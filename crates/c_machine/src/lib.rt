@@ -2,8 +2,9 @@
 //!
 //! A `Machine` keeps the code of a program and an execution, which is the place where the run stands. Its step and its run
 //! are proved to be those of the program. No operation asks a function or resumes a generator yet, so that only the
-//! functions of modules run. The definitions stand in specs/: `Machines` (what contracts see), `Calls` (what a call does),
-//! and below them `Standing`, `Walks`, `Effects`, `Starting`, `Values` and `Simple`.
+//! functions of modules run. A run takes stretches of simple statements in place (`quick`), and every other by `step`. The
+//! definitions stand in specs/: `Machines` (what contracts see), `Calls` (what a call does), and below them `Standing`,
+//! `Walks`, `Effects`, `InPlace`, `Starting`, `Values` and `Simple`.
 #![tactic(auto)]
 
 mod ending;
@@ -11,6 +12,7 @@ mod execution;
 mod machine;
 mod operation;
 mod placing;
+mod quick;
 mod starting;
 mod step;
 #[cfg(test)]

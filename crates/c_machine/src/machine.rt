@@ -1,13 +1,16 @@
 //! Machines.
 
-ghost use Rattle.std.specs.Prelude.{◌≡◌, ◌≢◌, ◌↔◌, ℕ, List, None, IfOk, IfSome, OnOk, OnErr, IsOk, IsTrue, false, true, is_err};
+ghost use Rattle.std.specs.Prelude.{◌≡◌, ◌≢◌, ◌↔◌, ◌≤◌, ℕ, List, None, IfOk, IfSome, OnOk, OnErr, IsOk, IsTrue, false, true, is_err};
 ghost use Rattle.std.specs.Option.{option_copied};
 ghost use Rattle.c_meaning.specs.declared.program.CProgram as program;
 ghost use Rattle.nu_calls.specs.Rules.{table_rules};
+ghost use Rattle.nu_run.specs.Steps.{More};
+ghost use Rattle.c_meaning.specs.State.{printed_in};
 ghost use Rattle.c_meaning.specs.Step.{step};
 ghost use Rattle.c_machine.specs.Effects.{placed_for};
 ghost use Rattle.c_machine.specs.Light.{is_light};
-ghost use Rattle.c_machine.specs.Standing.{state_of};
+ghost use Rattle.c_machine.specs.Standing.{Outside, state_of};
+ghost use Rattle.c_machine.specs.Walks.{Leads};
 ghost use Rattle.c_machine.specs.Machines.{IsFresh, answer_at_rest, run_from};
 ghost use Rattle.c_machine.specs.Calls.{CountsCall, GaveUp, Runs, answer_by, Takes, Walks, counted};
 
@@ -137,14 +140,31 @@ impl Machine {
         if let Some(answer) = self.at_rest() {
             return answer;
         }
-        for taken in 0..steps {
-            let _ = taken;
+        let mut taken = 0;
+        while taken < steps {
             match self.step(input, out)? {
                 Stepped::More => {}
                 Stepped::Ended => return Ok(Stepped::Ended),
             }
+            taken += 1;
+            taken += self.hurry(steps - taken);
         }
         Ok(Stepped::More)
+    }
+
+    // Takes steps in place, as far as that goes, at most so many, and answers how many.
+    #[tactic(auto, using(crate::proofs::Stretches::counted_is))]
+    fn hurry(&mut self, most: u64) -> u64
+        ensures few { result ≤ most }
+        ensures steps { self.new.steps ≡ counted self.old.steps result }
+        ensures code { self.new.code ≡ self.old.code }
+        ensures end { self.new.standing.end ≡ self.old.standing.end }
+        ensures failed { self.new.failed ≡ self.old.failed }
+        ensures leads { (w : Outside) → Leads (step table_rules self.old.code) printed_in result result (More (state_of self.old.standing.execution w)) (More (state_of self.new.standing.execution w)) }
+    {
+        let taken = self.execution.hurry(&self.code, most);
+        self.steps = self.steps.saturating_add(taken);
+        taken
     }
 
     // What it answers if it can take no step.

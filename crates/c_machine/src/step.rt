@@ -19,7 +19,8 @@ use std::alloc::{AllocError, Global};
 
 impl Execution {
     // The next statement, if there is one.
-    fn statement<'a>(&self, code: &'a Code) -> Option<&'a Placed>
+    #[inline]
+    pub(crate) fn statement<'a>(&self, code: &'a Code) -> Option<&'a Placed>
         ensures value { option_copied result ≡ placed_for code.now self.now }
         ensures small { OnSome result (self.now.place + 1 < 2 ^ 64) }
     {

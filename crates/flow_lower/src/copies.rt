@@ -5,22 +5,10 @@ ghost use Rattle.node_tree.specs.declared.node.Argument.TheVariants as node_argu
 ghost use Rattle.flow_lower.specs.Lower.{operand_of, argument_of};
 
 use flow_code::{Argument, Operand};
+use node_tree::share_constant;
 use nu_value::Shape;
-use op_rules::Const;
 use sqlite_items::Items;
 use std::alloc::{AllocError, Global};
-
-/// The same constant.
-pub fn share_constant(constant: &Const) -> Result<Const, AllocError>
-    ensures { IfOk result (λ copy. copy ≡ constant.now) }
-{
-    match constant {
-        Const::None => Ok(Const::None),
-        Const::Bool(truth) => Ok(Const::Bool(*truth)),
-        Const::Int(number) => Ok(Const::Int(*number)),
-        Const::Str(text) => Ok(Const::Str(text.share()?)),
-    }
-}
 
 /// The register of a temporary, or the constant.
 pub fn lower_operand(operand: &node_tree::Operand) -> Result<Operand, AllocError>

@@ -6,9 +6,9 @@ ghost use Rattle.flow_code.specs.declared.statement.Line.{Line as Flat};
 ghost use Rattle.flow_code.specs.declared.statement.Line.TheVariants as flat_line;
 ghost use Rattle.flow_lower.specs.Lower.{form_labels, labels as label_count, exit_of, form_lines, block_lines};
 
-use crate::copies::{call_arguments, lower_arguments, lower_operand, share_constant};
+use crate::copies::{call_arguments, lower_arguments, lower_operand};
 use flow_code::{Line, Operand, Statement};
-use node_tree::Node;
+use node_tree::{Node, share_constant};
 use op_rules::Op;
 use std::alloc::{AllocError, Global};
 

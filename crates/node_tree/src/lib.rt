@@ -9,7 +9,7 @@ mod temps;
 
 ghost use Rattle.node_tree.specs.Laws.{NodeRunsAreMonotone, BlocksGoOn, BlocksAppend};
 
-pub use node::{Argument, Block, Node, Operand};
+pub use node::{Argument, Block, Node, Operand, share_constant};
 pub use script::{NodeCode, NodeScript};
 pub use temps::Temps;
 

@@ -1,11 +1,8 @@
-pub mod Pairs
 pub mod Ending
 pub mod OneKind
 pub mod Ways
-pub mod Walks
-pub mod PrintRuns
-pub mod Compiles
-pub mod Texts
+pub mod Composed
+pub mod Built
 pub mod RunEnds
 pub mod Steps
 pub mod Clauses

@@ -18,7 +18,8 @@ use Rattle.py_scopes.specs.Rules as rules
 use Rattle.py_scopes.proofs.OneRefusal.{one_rule}
 use Rattle.nuit_lib.specs.declared.refusal.Kind.{Kind}
 use Rattle.nuit_lib.specs.declared.refusal.Kind.TheVariants as kind
-use Rattle.nuit_lib.specs.Scripts.{IsTree, Accepted, first_other}
+use Rattle.reform_all.specs.Built.{first_unbuilt}
+use Rattle.nuit_lib.specs.Scripts.{IsTree, Accepted}
 use Rattle.nuit_lib.specs.Refusals.{BreaksRule, IsRefused, OneKind}
 
 -- Each step answers for a text in one way
@@ -49,7 +50,7 @@ data Step (bytes : List ℕ) (k : Kind) : Type 0 where
   Lexing : (e : LexEnd) (free : e ≢ lexer.Memory) (h : lexed.Refuses bytes e) (is : k ≡ of_lexer e) → Step bytes k
   Parsing : (tokens : List Token) (l : Tokens bytes tokens) (e : ParseEnd) (free : e ≢ parser.Memory) (h : parsed.Answers tokens (Err e)) (is : k ≡ of_parser e) → Step bytes k
   Resolving : (s : Script) (t : IsTree bytes s) (rule : rules.Kind) (line : ℕ) (h : Refuses (surveyed s.statements) rule line) (is : k ≡ of_rule rule) → Step bytes k
-  Building : (s : Script) (t : IsTree bytes s) (keeps : KeepsAll (surveyed s.statements)) (line : ℕ) (h : first_other s.statements ≡ Some line) (is : k ≡ kind.Unbuilt) → Step bytes k
+  Building : (s : Script) (t : IsTree bytes s) (keeps : KeepsAll (surveyed s.statements)) (line : ℕ) (h : first_unbuilt s.statements ≡ Some line) (is : k ≡ kind.Unbuilt) → Step bytes k
 
 rule_step : (bytes : List ℕ) (rule : rules.Kind) (line : ℕ) → BreaksRule rule bytes line → Step bytes (of_rule rule)
 rule_step bytes rule line h = Resolving h.tree h.is rule line h.breaks refl
@@ -133,7 +134,7 @@ module _ (bytes : List ℕ) where
   none a k (Parsing b m f q i at) = no_tree a.tree b f q a.is m i
   none a k (Resolving t y rule n i at) = keeps_or_breaks a.tree t rule n a.is y a.keeps i
   none a k (Building t y keeps n i at) =
-      let e : None ≡ Some n = sym a.built ∙ ap (λ s. first_other s.statements) (same_tree a.tree t a.is y) ∙ i in
+      let e : None ≡ Some n = sym a.built ∙ ap (λ s. first_unbuilt s.statements) (same_tree a.tree t a.is y) ∙ i in
       cc
 
 pub one_kind : (bytes : List ℕ) → OneKind bytes

@@ -1,5 +1,5 @@
 -- What the steps from bytes to statements answer, together.
-use Rattle.std.proofs.Common.{◌≡◌, ℕ, List, Ok, Err, refl}
+use Rattle.std.proofs.Common.{ℕ, List, Ok, Err, refl, sym, ◌∙◌, ap, subst}
 use Rattle.py_ast.specs.declared.token.Token.{Token}
 use Rattle.py_ast.specs.declared.stmt.Script.{Script}
 use Rattle.py_ast.specs.declared.scoped.Scoped.{Scoped}
@@ -15,7 +15,7 @@ use Rattle.py_scopes.specs.declared.end.ScopeEnd.TheVariants as scopes
 use Rattle.py_scopes.specs.Resolve as resolved
 use Rattle.py_scopes.specs.Survey.{surveyed}
 use Rattle.py_scopes.specs.Rules.{KeepsAll}
-use Rattle.nuit_lib.specs.Scripts.{IsTree}
+use Rattle.nuit_lib.specs.Scripts.{IsTree, IsScript}
 use Rattle.nuit_lib.specs.Reading.{Refuses, of_lexer, of_parser, of_scopes}
 
 pub no_tokens : (bytes : List ℕ) (e : LexEnd) → lexed.Refuses bytes e → Refuses bytes (of_lexer e)
@@ -43,9 +43,12 @@ no_scopes bytes s (scopes.Raise line) t h = record { tree = s; is = t; breaks = 
 no_scopes bytes s (scopes.Repeat line) t h = record { tree = s; is = t; breaks = h }
 no_scopes bytes s scopes.Memory t h = tt
 
--- a resolved script is the one that was given
-pub same_script : (s : Script) (x : Scoped) → resolved.Answers s (Ok x) → x.script ≡ s
-same_script s x h = h.0
-
-pub keeps_all : (s : Script) (x : Scoped) → resolved.Answers s (Ok x) → KeepsAll (surveyed s.statements)
-keeps_all s x h = h.1.1
+-- a resolved script is a script of the bytes
+pub is_script : (bytes : List ℕ) (tokens : List Token) (s : Script) (x : Scoped) → Tokens bytes tokens → parsed.Answers tokens (Ok s) → resolved.Answers s (Ok x) → IsScript bytes x
+is_script bytes tokens s x l h r = record {
+  is = subst (IsTree bytes) (sym r.0) (is_tree bytes tokens s l h);
+  resolved = record {
+    keeps = subst (λ z. KeepsAll (surveyed z.statements)) (sym r.0) r.1.1;
+    scopes = r.1.0 ∙ ap (λ z. resolved.scopes_of (surveyed z.statements)) (sym r.0);
+  };
+}

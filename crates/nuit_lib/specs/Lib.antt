@@ -3,8 +3,7 @@ pub mod Words
 pub mod Asked
 pub mod Scripts
 pub mod Refusals
-pub mod PyMeaning
-pub mod Printing
+pub mod Compiled
 pub mod Reading
 pub mod Replies
 pub mod Ends

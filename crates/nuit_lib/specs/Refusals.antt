@@ -12,7 +12,8 @@ use Rattle.py_scopes.specs.Rules.{Refuses, KeepsAll}
 use Rattle.py_scopes.specs.Rules as rules
 use Rattle.nuit_lib.specs.declared.refusal.Kind.{Kind}
 use Rattle.nuit_lib.specs.declared.refusal.Kind.TheVariants as kind
-use Rattle.nuit_lib.specs.Scripts.{IsTree, Accepted, first_other}
+use Rattle.reform_all.specs.Built.{first_unbuilt}
+use Rattle.nuit_lib.specs.Scripts.{IsTree, Accepted}
 
 -- there are tokens, and in this line one first has too many brackets and indentation levels open
 pub record IsDeep (bytes : List ℕ) (line : ℕ) : Type 0 where
@@ -33,12 +34,12 @@ pub record BreaksRule (rule : rules.Kind) (bytes : List ℕ) (line : ℕ) : Type
   pub is : IsTree bytes tree
   pub breaks : Refuses (surveyed tree.statements) rule line
 
--- there is a tree that keeps every static rule, and in this line is its first statement that this stage does not build
+-- there is a tree that keeps every static rule, and in this line is the first thing in it that is not built yet
 pub record IsUnbuilt (bytes : List ℕ) (line : ℕ) : Type 0 where
   pub tree : Script
   pub is : IsTree bytes tree
   pub keeps : KeepsAll (surveyed tree.statements)
-  pub other : first_other tree.statements ≡ Some line
+  pub other : first_unbuilt tree.statements ≡ Some line
 
 -- the script has this refusal kind, in this line; bytes that are no UTF-8 count as line 1, and where there is no tree no line is said
 abbrev pub IsRefused : List ℕ → Kind → ℕ → Type 0

@@ -4,8 +4,8 @@ use Rattle.nu_run.specs.declared.StopKind.{StopKind}
 use Rattle.nu_run.specs.declared.StopKind.TheVariants as stop
 use Rattle.nu_run.specs.declared.End.{End}
 use Rattle.nu_run.specs.declared.End.TheVariants as end
-use Rattle.nu_run.specs.Runs.{Run, Going, Ended, printed_by, IsPrefix, Same}
-use Rattle.py_ast.specs.declared.stmt.Script as script
+use Rattle.nu_run.specs.Runs.{Run, Going, Ended, printed_by, IsPrefix}
+use Rattle.py_ast.specs.declared.scoped.Scoped.{Scoped}
 use Rattle.c_meaning.specs.declared.program.CProgram as program
 use Rattle.c_meaning.specs.Written.{IsText}
 use Rattle.nu_calls.specs.Rules.{table_rules}
@@ -15,9 +15,9 @@ use Rattle.nuit_lib.specs.declared.status.Status.TheVariants as status
 use Rattle.nuit_lib.specs.Words.{Command, BuildFile, RunFile}
 use Rattle.nuit_lib.specs.declared.refusal.Kind.{Kind}
 use Rattle.nuit_lib.specs.declared.refusal.Kind.TheVariants as kind
-use Rattle.nuit_lib.specs.Scripts.{IsTree, Accepted}
+use Rattle.nuit_lib.specs.Compiled.{IsProgramOf}
+use Rattle.nuit_lib.specs.Scripts.{IsScript, Accepted}
 use Rattle.nuit_lib.specs.Refusals.{IsRefused}
-use Rattle.nuit_lib.specs.PyMeaning.{py_run}
 
 abbrev pub usage_text : List ℕ
 usage_text = codes "nuit: usage: tree FILE, build FILE, run FILE [STEPS], sample N\n"
@@ -74,7 +74,7 @@ refused_text kind line = codes "nuit: refused: " ++ (kind_name kind ++ (codes ",
 pub record IsBuilt (name bytes text : List ℕ) : Type 0 where
   pub program : program.CProgram
   pub is_text : IsText text program
-  pub same : (s : script.Script) → IsTree bytes s → (input : List ℕ) → Same (py_run name s input) (c_run table_rules program input)
+  pub is : (s : Scoped) → IsScript bytes s → IsProgramOf name s program
 
 -- nothing is written to the output, and this to the error output
 pub record Says (message out err : List ℕ) : Type 0 where

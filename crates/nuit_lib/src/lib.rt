@@ -1,16 +1,16 @@
 //! The compiler: a script of the Python profile becomes C text.
 //!
 //! `nuit` is the call that the program makes. specs/ tells its story in this order: `Words` (what the words ask for),
-//! `Scripts` (which bytes are a script that is built), `Refusals` (why others are not), `PyMeaning` (what a script does),
-//! `Printing` (the program that is written for it), `Replies` (what a call owes), `Ends` (how a call ends). `Reading` says what
-//! the way to a script answers on the way.
+//! `Scripts` (which bytes are a script that is built), `Refusals` (why others are not), `Compiled` (what is written for a script),
+//! `Replies` (what a call owes), `Ends` (how a call ends). `Reading` says what the way to a script answers on the way.
 #![tactic(auto)]
 
 mod building;
 mod call;
+mod compiling;
+#[cfg(test)]
+mod examples;
 mod laws;
-mod printing;
-mod prints;
 mod reading;
 mod refusal;
 mod running;

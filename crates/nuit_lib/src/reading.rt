@@ -1,27 +1,27 @@
-//! From the bytes of a script to its statements: tokens, tree, static rules, and what this stage builds.
+//! From the bytes of a script to its scopes: tokens, tree, static rules.
 
 ghost use Rattle.std.specs.Prelude.{◌≡◌, ◌≤◌, length, MatchResult};
 ghost use Rattle.nuit_lib.specs.Reading as spec;
+ghost use Rattle.nuit_lib.specs.Scripts.{IsScript};
 
-use crate::prints::{PrintCall, print_calls};
 use crate::refusal::Kind;
-use py_ast::Script;
+use py_ast::Scoped;
 use py_lexer::{LexEnd, lex};
 use py_parser::{ParseEnd, parse};
 use py_scopes::{ScopeEnd, resolve};
 use std::alloc::Global;
 
-/// Why there is no script that this stage builds.
+/// Why there is no script of the profile.
 #[derive(Clone, Copy)]
 pub(crate) enum ReadEnd {
     Refused { kind: Kind, line: u32 },
     Memory,
 }
 
-/// The calls that a script is.
-pub(crate) fn read(alloc: Global, text: &[u8]) -> Result<Vec<PrintCall>, ReadEnd>
+/// The script, with its scopes.
+pub(crate) fn read(alloc: Global, text: &[u8]) -> Result<Scoped, ReadEnd>
     requires { length text.now ≤ 262144 }
-    ensures { MatchResult result (λ calls. spec.IsRead text.now calls.items) (spec.Refuses text.now) }
+    ensures { MatchResult result (IsScript text.now) (spec.Refuses text.now) }
 {
     let tokens = match lex(alloc, text) {
         Ok(tokens) => tokens,
@@ -31,17 +31,9 @@ pub(crate) fn read(alloc: Global, text: &[u8]) -> Result<Vec<PrintCall>, ReadEnd
         Ok(script) => script,
         Err(end) => return Err(of_parser(end)),
     };
-    let scoped = match resolve(alloc, script) {
-        Ok(scoped) => scoped,
-        Err(end) => return Err(of_scopes(end)),
-    };
-    match print_calls(alloc, scoped.script.statements.as_slice()) {
-        Ok(Ok(calls)) => Ok(calls),
-        Ok(Err(line)) => Err(ReadEnd::Refused {
-            kind: Kind::Unbuilt,
-            line,
-        }),
-        Err(_) => Err(ReadEnd::Memory),
+    match resolve(alloc, script) {
+        Ok(scoped) => Ok(scoped),
+        Err(end) => Err(of_scopes(end)),
     }
 }
 

@@ -12,6 +12,8 @@ NU_CODE(0, \"<module>\", \"\", 0, 0, 1)
 nu nu_code_0(nu_frame *fr)
 {
   return nu_end(fr);
+L0:;
+  return nu_fail(fr);
 }
 ";
 
@@ -143,7 +145,7 @@ struct Case {
 
 pub(crate) const BUILD: &[&str] = &["build", "t.py"];
 
-const RUN: &[&str] = &["run", "t.py"];
+pub(crate) const RUN: &[&str] = &["run", "t.py"];
 
 static CASES: [Case; 31] = [
     Case {
@@ -429,6 +431,25 @@ fn runs_what_it_builds(rt: HostRuntime) -> Result<(), Fail> {
     let (_built, text, _silent) = called(alloc, BUILD, script, &NOTHING)?;
     let wanted = (Status::Done, b"31\n7\n".as_slice(), b"".as_slice());
     assert!(rt; gives(alloc, RUN, text.bytes(), &NOTHING, wanted)?);
+    Ok(())
+}
+
+/// Loops that no bound ends, and the bytes that they print within the first 1,000 steps.
+static ENDLESS: [(&[u8], &[u8]); 2] = [
+    (b"while True:\n    print(1)\n", b"1\n"),
+    (b"x = 5\nwhile x: x -= 2\n", b""),
+];
+
+#[test]
+fn loops_without_end_run_out_of_steps(rt: HostRuntime) -> Result<(), Fail> {
+    for (script, piece) in ENDLESS {
+        let (_built, text, _silent) = called(rt.alloc(), BUILD, script, &NOTHING)?;
+        let words = ["run", "t.py", "1000"];
+        let (status, out, err) = called(rt.alloc(), &words, text.bytes(), &NOTHING)?;
+        assert_eq!(rt; status, Status::Steps);
+        assert!(rt; out.bytes().iter().all(|byte| piece.contains(byte)));
+        assert_eq!(rt; err.bytes(), b"nuit: steps\n".as_slice());
+    }
     Ok(())
 }
 

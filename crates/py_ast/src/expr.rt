@@ -52,11 +52,11 @@ pub enum Comparison {
     IsNot,
 }
 
-/// An item of a tuple or list display, or a positional argument: an expression, or `*` and one.
+/// An item of a tuple or list display: an expression, or `*` and one, with the line of the star.
 #[derive(Drop)]
 pub enum Item<E> {
     One(E),
-    Star(E),
+    Star(u32, E),
 }
 
 /// An entry of a dict display: a key and its value, or `**` and a mapping (reference, section 6.2.7).

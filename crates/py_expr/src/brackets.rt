@@ -74,7 +74,7 @@ impl<
                 let tree = Expr::Generator(line, x, clauses.tree);
                 tall(self.alloc, tokens, line, depth, height, tree)
             }
-            Item::Star(_) => Err(tokens.refuse()),
+            Item::Star(_, _) => Err(tokens.refuse()),
         }
     }
 
@@ -96,12 +96,11 @@ impl<
             }
             Mark::Keyword(Word::Yield) => self.yields(tokens, depth),
             _ => {
-                let start = tokens.line();
                 let first = self.item(tokens, Row::Expressions, depth)?;
                 if tokens.sees_word(Word::For) {
                     return self.generator(tokens, line, depth, first);
                 }
-                self.row_behind(tokens, line, start, Row::Expressions, depth, first)
+                self.row_behind(tokens, line, Row::Expressions, depth, first)
             }
         }
     }
@@ -125,7 +124,7 @@ impl<
                 let tree = Expr::ListComprehension(line, x, clauses.tree);
                 tall(self.alloc, tokens, line, depth, height, tree)
             }
-            Item::Star(_) => Err(tokens.refuse()),
+            Item::Star(_, _) => Err(tokens.refuse()),
         }
     }
 

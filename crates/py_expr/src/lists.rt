@@ -173,23 +173,22 @@ impl<
         Err(tokens.refuse())
     }
 
-    /// What stands behind the first item: an item by itself begins on the line `start`, a tuple on the line `at`.
+    /// What stands behind the first item: nothing, or the others of a tuple, which begins on the line `at`.
     #[tactic(auto, unfolding(py_grammar::specs::Parse::row_behind))]
     pub fn row_behind(
         &self,
         tokens: &mut Cursor<'_>,
         at: u32,
-        start: u32,
         row: Row,
         depth: u32,
         first: Found<Item<Boxed<Expr>>>,
     ) -> Result<Found<Boxed<Expr>>, ParseEnd>
         requires { Nests self.now.fuel (F.pre self.now.again) (F.post self.now.again) }
-        ensures { Reads (spec.row_behind (spec.parse self.now.fuel) self.now.fuel at start row depth first tokens.old) result tokens.new }
+        ensures { Reads (spec.row_behind (spec.parse self.now.fuel) self.now.fuel at row depth first tokens.old) result tokens.new }
     {
         if !tokens.sees(Sign::Comma) {
             return Ok(Found {
-                tree: alone(self.alloc, start, first.tree)?,
+                tree: alone(self.alloc, first.tree)?,
                 height: first.height,
             });
         }
@@ -217,9 +216,8 @@ impl<
         requires { Nests self.now.fuel (F.pre self.now.again) (F.post self.now.again) }
         ensures { Reads (spec.row_of (spec.parse self.now.fuel) self.now.fuel at row depth tokens.old) result tokens.new }
     {
-        let start = tokens.line();
         let first = self.item(tokens, row, depth)?;
-        self.row_behind(tokens, at, start, row, depth, first)
+        self.row_behind(tokens, at, row, depth, first)
     }
 
     /// Parameters in any order, or none.

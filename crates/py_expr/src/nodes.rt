@@ -22,12 +22,12 @@ pub fn combined(line: u32, op: Operator, x: Boxed<Expr>, y: Boxed<Expr>) -> Expr
 }
 
 /// An item that stands by itself, without a comma.
-pub fn alone(alloc: Global, line: u32, item: Item<Boxed<Expr>>) -> Result<Boxed<Expr>, AllocError>
-    ensures { IfOk result (λ e. e ≡ spec.alone line item) }
+pub fn alone(alloc: Global, item: Item<Boxed<Expr>>) -> Result<Boxed<Expr>, AllocError>
+    ensures { IfOk result (λ e. e ≡ spec.alone item) }
 {
     match item {
         Item::One(x) => Ok(x),
-        Item::Star(x) => Boxed::new(alloc, Expr::Star(line, x)),
+        Item::Star(line, x) => Boxed::new(alloc, Expr::Star(line, x)),
     }
 }
 
@@ -50,8 +50,8 @@ pub fn opened_item(found: Found<Item<Boxed<Expr>>>) -> Found<Item<Expr>>
             tree: Item::One(x.into_inner()),
             height,
         },
-        Item::Star(x) => Found {
-            tree: Item::Star(x.into_inner()),
+        Item::Star(line, x) => Found {
+            tree: Item::Star(line, x.into_inner()),
             height,
         },
     }

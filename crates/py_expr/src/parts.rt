@@ -80,10 +80,10 @@ impl<
         ensures { Reads (spec.item (spec.parse self.now.fuel) self.now.fuel row depth tokens.old) result tokens.new }
     {
         if tokens.sees(Sign::Star) {
-            tokens.take();
+            let line = tokens.take();
             let x = self.again(tokens, star_level(row), depth)?;
             return Ok(Found {
-                tree: Item::Star(x.tree),
+                tree: Item::Star(line, x.tree),
                 height: x.height,
             });
         }

@@ -67,9 +67,9 @@ pub fn row_to(
     let first = grammar.item(tokens, Row::Expressions, depth)?;
     let is_alone = match first.tree {
         Item::One(_) => !tokens.sees(Sign::Comma),
-        Item::Star(_) => false,
+        Item::Star(_, _) => false,
     };
-    let row = grammar.row_behind(tokens, line, line, Row::Expressions, depth, first)?;
+    let row = grammar.row_behind(tokens, line, Row::Expressions, depth, first)?;
     Ok((opened(row), is_alone))
 }
 
@@ -103,7 +103,6 @@ pub fn target_to(
     ensures { Reads (spec.read_target depth tokens.old) result tokens.new }
 {
     let fuel = tokens.rest().len() + 1;
-    let line = tokens.line();
     let item = Grammar {
         alloc,
         fuel,
@@ -111,7 +110,7 @@ pub fn target_to(
     }
     .item(tokens, Row::Targets, depth)?;
     Ok(Found {
-        tree: alone(alloc, line, item.tree)?.into_inner(),
+        tree: alone(alloc, item.tree)?.into_inner(),
         height: item.height,
     })
 }

@@ -30,7 +30,7 @@ use Rattle.py_grammar.proofs.Steps.{sees_it, sees_word_it, sees_by, sees_word_by
 use Rattle.py_grammar.proofs.Starts.{Begins, Unkeyed, mark_front, tail_mark, tail_comma}
 use Rattle.py_grammar.proofs.Lists.{joined}
 use Rattle.py_grammar.proofs.OperationsRead.{Complete, whole, CompletePart, CompleteTail, CompleteInside, CompleteParams, CompleteArguments, CompleteSubscripts}
-use Rattle.py_grammar.proofs.PartsRead.{RowRead, row_begins, row_line, row_first, row_fronted, row_some, row_reads, on_item, on_argument, CompleteClauses}
+use Rattle.py_grammar.proofs.PartsRead.{RowRead, row_begins, row_first, row_fronted, row_some, row_reads, on_item, on_argument, CompleteClauses}
 
 -- nothing goes on where a bracket closes
 over_at : (p : Parts) (b : Bracket) (rest : List Token) → mark rest ≡ m.Sign (closing b) → Over p (mark rest)
@@ -107,7 +107,7 @@ on_exprs at h x xs a n fits d low rest ends =
     let over = over_at (Parts.items row.Expressions) b.Round rest ends in
     let no_for = sees_word_by w.For (a.vs ++ rest) false (tail_no_for _ b.Round a.others a.more a.vs rest a.tail ends) in
     round_item (parse n) n at d (xs ++ rest) (row_begins row.Expressions at h x xs a rest)
-    ∙ rw (row_line row.Expressions at h x xs a rest, row_first row.Expressions at h x xs a n fits d low rest over, no_for) (a.reads n (omega arith) d low rest over)
+    ∙ rw (row_first row.Expressions at h x xs a n fits d low rest over, no_for) (a.reads n (omega arith) d low rest over)
 
 pub on_yielded : (at h : ℕ) (x : Expr) (xs : List Token) → ((i : List Token) → mark (xs ++ i) ≡ m.Keyword w.Yield) → CompleteYields h x xs → CompleteInside b.Round at h x xs
 on_yielded at h x xs first a n fits d low rest ends =

@@ -121,16 +121,16 @@ module _ (again : ℕ → ℕ → Parser (Found Expr)) (sound : Sound again) (n 
         tree = Inside.generator (item_plain a) t.tree;
         low = low;
       })
-  generator_sound at d h (it.Star x) us i p a eq = cc
+  generator_sound at d h (it.Star m x) us i p a eq = cc
 
-  round_behind_sound : (at start d : ℕ) (x : Found (Item Expr)) (us i : List Token) (p : Found Expr × List Token) → PartOf (Parts.items row.Expressions) x.height x.tree us → x.height ≤ d → start ≡ line us
-      → round_behind again n at start d x i ≡ Some p → Took (Inside b.Round at) d (us ++ i) p
+  round_behind_sound : (at d : ℕ) (x : Found (Item Expr)) (us i : List Token) (p : Found Expr × List Token) → PartOf (Parts.items row.Expressions) x.height x.tree us → x.height ≤ d
+      → round_behind again n at d x i ≡ Some p → Took (Inside b.Round at) d (us ++ i) p
   unfolding round_behind
-  round_behind_sound at start d x us i p a below starts h =
+  round_behind_sound at d x us i p a below h =
       elim (chosen (sees_word w.For i) _ _ _ h) [
         | inl for_ ↦ generator_sound at d x.height x.tree us i p a for_.1
         | inr rest ↦
-            let t = row_behind_sound again sound n at start row.Expressions d x us i p a below starts rest.1 in
+            let t = row_behind_sound again sound n at row.Expressions d x us i p a below rest.1 in
             record { used = t.used; cut = t.cut; tree = Inside.exprs t.tree; low = t.low }
       ]
 
@@ -139,8 +139,7 @@ module _ (again : ℕ → ℕ → Parser (Found Expr)) (sound : Sound again) (n 
       let v = bind_some (item again n row.Expressions d i) _ p h in
       let x = v.0 in
       let t = item_sound again sound n row.Expressions d i (x, v.1) v.2 in
-      let starts = ap line t.cut ∙ fronted_part t.tree v.1 in
-      subst (λ l. Took (Inside b.Round at) d l p) (sym t.cut) (round_behind_sound at (line i) d x t.used v.1 p t.tree t.low starts v.3)
+      subst (λ l. Took (Inside b.Round at) d l p) (sym t.cut) (round_behind_sound at d x t.used v.1 p t.tree t.low v.3)
 
   round_by_sound : (at d : ℕ) (q : Mark) (i : List Token) (p : Found Expr × List Token) → mark i ≡ q → round_by again n at d q i ≡ Some p → Took (Inside b.Round at) d i p
   round_by_sound at d (m.Sign s.RightParen) i p is h = node d i 0 (e.Tuple at []) i p h (λ low. record { used = []; cut = refl; tree = Inside.nothing; low = low })
@@ -163,7 +162,7 @@ module _ (again : ℕ → ℕ → Parser (Found Expr)) (sound : Sound again) (n 
         tree = Inside.list_of (item_plain a) t.tree;
         low = low;
       })
-  list_of_sound at d h (it.Star x) us i p a eq = cc
+  list_of_sound at d h (it.Star m x) us i p a eq = cc
 
   square_behind_sound : (at d : ℕ) (x : Found (Item Expr)) (us i : List Token) (p : Found Expr × List Token) → PartOf (Parts.items row.Expressions) x.height x.tree us → square_behind again n at d x i ≡ Some p → Took (Inside b.Square at) d (us ++ i) p
   unfolding square_behind

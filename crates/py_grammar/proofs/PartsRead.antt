@@ -51,7 +51,7 @@ on_item r h x xs b a n fits d low rest behind =
     let first = sees_by s.Star (xs ++ rest) false (no_star (plain_level r) _ (mark_front (plain_level r) xs rest b)) in
     rw (first, whole (plain_level r) h x xs a n fits d low rest behind.takes behind.ends) refl
 
-pub on_star_item : (r : Row) (h : ℕ) (x : Expr) (xs : List Token) (t : Token) → IsSign t s.Star → Complete (star_level r) h x xs → CompletePart (Parts.items r) h (it.Star x) (t ∷ xs)
+pub on_star_item : (r : Row) (h : ℕ) (x : Expr) (xs : List Token) (t : Token) → IsSign t s.Star → Complete (star_level r) h x xs → CompletePart (Parts.items r) h (it.Star t.line x) (t ∷ xs)
 unfolding item
 on_star_item r h x xs t is a n fits d low rest behind =
     let up = star_looser r in
@@ -242,9 +242,9 @@ pub record RowRead (r : Row) (at h : ℕ) (x : Expr) (ts : List Token) : Type 0 
   pub starts : (i : List Token) → begins (Parts.items r) (mark (us ++ i)) ≡ true
   pub part_reads : CompletePart (Parts.items r) height first us
   pub tail : Tail (Parts.items r) others more vs
-  pub reads : (n : ℕ) → length vs < n → (d : ℕ) → h ≤ d → (rest : List Token) → Over (Parts.items r) (mark rest) → row_behind (parse n) n at (line us) r d (found first height) (vs ++ rest) ≡ Some (found x h, rest)
+  pub reads : (n : ℕ) → length vs < n → (d : ℕ) → h ≤ d → (rest : List Token) → Over (Parts.items r) (mark rest) → row_behind (parse n) n at r d (found first height) (vs ++ rest) ≡ Some (found x h, rest)
 
-pub on_single : (r : Row) (at h : ℕ) (i : Item Expr) (xs : List Token) → ((i : List Token) → begins (Parts.items r) (mark (xs ++ i)) ≡ true) → CompletePart (Parts.items r) h i xs → RowRead r at h (alone (line xs) i) xs
+pub on_single : (r : Row) (at h : ℕ) (i : Item Expr) (xs : List Token) → ((i : List Token) → begins (Parts.items r) (mark (xs ++ i)) ≡ true) → CompletePart (Parts.items r) h i xs → RowRead r at h (alone i) xs
 unfolding row_behind
 on_single r at h i xs starts a = record {
   first = i;
@@ -298,16 +298,13 @@ row_first r at h x ts a n fits d low rest over =
     let behind = tail_mark (Behind (Parts.items r)) a.tail (behind_comma (Parts.items r)) rest over.behind in
     rw (a.cut, append_assoc a.us a.vs rest) (a.part_reads n (omega arith) d (omega arith) (a.vs ++ rest) behind)
 
-pub row_line : (r : Row) (at h : ℕ) (x : Expr) (ts : List Token) → (a : RowRead r at h x ts) → (rest : List Token) → line (ts ++ rest) ≡ line a.us
-row_line r at h x ts a rest = ap (λ s. line (s ++ rest)) a.cut ∙ ap line (append_assoc a.us a.vs rest) ∙ fronted_some a.us (some_part (Parts.items r) a.us a.starts) (a.vs ++ rest)
-
 pub row_reads : (r : Row) (at h : ℕ) (x : Expr) (ts : List Token) → RowRead r at h x ts → (n : ℕ) → length ts < n → (d : ℕ) → h ≤ d → (rest : List Token) → Over (Parts.items r) (mark rest)
     → row_of (parse n) n at r d (ts ++ rest) ≡ Some (found x h, rest)
 unfolding row_of
 row_reads r at h x ts a n fits d low rest over =
     let size = length-append a.us a.vs in
     let same = ap length a.cut in
-    rw (row_line r at h x ts a rest, row_first r at h x ts a n fits d low rest over) (a.reads n (omega arith) d low rest over)
+    rw (row_first r at h x ts a n fits d low rest over) (a.reads n (omega arith) d low rest over)
 
 -- ---- comprehensions
 

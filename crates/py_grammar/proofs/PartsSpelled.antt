@@ -25,7 +25,7 @@ use Rattle.py_grammar.specs.declared.role.Row.{Row}
 use Rattle.py_grammar.specs.declared.role.Row.TheVariants as row
 use Rattle.py_grammar.specs.Levels.{expression, disjunction, bitor, primary, atom, plain_level, star_level, role, makes, mark, mark_of, line, next}
 use Rattle.py_grammar.specs.Lists.{params_in_order}
-use Rattle.py_grammar.specs.Grammar.{Spells, Part, Parts, PartOf, Tail, Several, Run, RowOf, LoopOf, Comprehends, Params, IsSign, IsWord, alone}
+use Rattle.py_grammar.specs.Grammar.{Spells, Part, Parts, PartOf, Tail, Several, Run, RowOf, LoopOf, Comprehends, Params, IsSign, IsWord}
 use Rattle.py_grammar.specs.Parse.{Parser, and_then, found, only, with_part, item, argument, argument_by, plain_argument, keyword, entry, pair, named, star_by, param, param_by, link, comparator, tail_from, run_from, row_behind, row_of, some_params, params, loop_clause, clause, clause_by, comprehension, comprehended, sees, sees_keyword, name, expect, expect_word, begins, begins_param, tall, pure, refuse}
 use Rattle.py_grammar.specs.Laws.{Took}
 use Rattle.py_grammar.proofs.Roles.{inner}
@@ -136,7 +136,7 @@ module _ (again : ℕ → ℕ → Parser (Found Expr)) (sound : Sound again) (n 
             let b = bind_some (again (star_level r) d (next i)) _ p star.1 in
             let x = b.0 in
             let t = sound (star_level r) d (star_atom r) (next i) (x, b.1) b.2 in
-            given (record { used = f.token ∷ t.used; cut = f.cut ∙ ap (λ l. f.token ∷ l) t.cut; tree = PartOf.star_item f.token f.is t.tree; low = t.low }) b.3
+            given (record { used = f.token ∷ t.used; cut = f.cut ∙ ap (λ l. f.token ∷ l) t.cut; tree = subst (λ l. PartOf (Parts.items r) x.height (it.Star l x.tree) (f.token ∷ t.used)) (sym (ap line f.cut)) (PartOf.star_item f.token f.is t.tree); low = t.low }) b.3
         | inr plain ↦
             let b = bind_some (again (plain_level r) d i) _ p plain.1 in
             let x = b.0 in
@@ -370,10 +370,10 @@ module _ (again : ℕ → ℕ → Parser (Found Expr)) (sound : Sound again) (n 
       ]
 
   -- what stands behind a first item
-  pub row_behind_sound : (at start : ℕ) (r : Row) (d : ℕ) (x : Found (Item Expr)) (us i : List Token) (p : Found Expr × List Token) → PartOf (Parts.items r) x.height x.tree us → x.height ≤ d → start ≡ line us
-      → row_behind again n at start r d x i ≡ Some p → Took (RowOf r at) d (us ++ i) p
+  pub row_behind_sound : (at : ℕ) (r : Row) (d : ℕ) (x : Found (Item Expr)) (us i : List Token) (p : Found Expr × List Token) → PartOf (Parts.items r) x.height x.tree us → x.height ≤ d
+      → row_behind again n at r d x i ≡ Some p → Took (RowOf r at) d (us ++ i) p
   unfolding row_behind
-  row_behind_sound at start r d x us i p a below starts h =
+  row_behind_sound at r d x us i p a below h =
       elim (chosen (sees s.Comma i) _ _ _ h) [
         | inl comma ↦
             let b = bind_some (tail_from again n (Parts.items r) (item again n r) (d - 1) n (only x) i) _ p comma.1 in
@@ -387,7 +387,7 @@ module _ (again : ℕ → ℕ → Parser (Found Expr)) (sound : Sound again) (n 
               tree = rw (items_are, height_is) (RowOf.tuple a (subst (λ l. Tail (Parts.items r) t.height t.items l) head.2 t.spelled));
               low = low;
             })
-        | inr single ↦ given (record { used = us; cut = refl; tree = rw starts (RowOf.single a); low = below }) single.1
+        | inr single ↦ given (record { used = us; cut = refl; tree = RowOf.single a; low = below }) single.1
       ]
 
   pub row_sound : (at : ℕ) (r : Row) (d : ℕ) (i : List Token) (p : Found Expr × List Token) → row_of again n at r d i ≡ Some p → Took (RowOf r at) d i p
@@ -396,8 +396,7 @@ module _ (again : ℕ → ℕ → Parser (Found Expr)) (sound : Sound again) (n 
       let b = bind_some (item again n r d i) _ p h in
       let x = b.0 in
       let t = item_sound r d i (x, b.1) b.2 in
-      let starts = ap line t.cut ∙ fronted_part t.tree b.1 in
-      subst (λ l. Took (RowOf r at) d l p) (sym t.cut) (row_behind_sound at (line i) r d x t.used b.1 p t.tree t.low starts b.3)
+      subst (λ l. Took (RowOf r at) d l p) (sym t.cut) (row_behind_sound at r d x t.used b.1 p t.tree t.low b.3)
 
   some_params_sound : (d : ℕ) (i : List Token) (p : Found (List (Param Expr)) × List Token) → some_params again n d i ≡ Some p → Took (Several Parts.params) d i p
   unfolding some_params

@@ -9,7 +9,7 @@ use Rattle.py_grammar.specs.declared.role.Mark.{Mark}
 use Rattle.py_grammar.specs.declared.role.Mark.TheVariants as m
 use Rattle.py_grammar.specs.declared.role.Row.TheVariants as row
 use Rattle.py_grammar.specs.Levels.{expression, atom, role, makes, wants, mark, line, follows_expression, follows_exprs, follows_yield, follows_targets, follows_target, follows_params}
-use Rattle.py_grammar.specs.Grammar.{Spells, RowOf, Yields, Params, Several, PartOf, Parts, Tail, Expression, Exprs, Targets, Target, SomeParams, alone}
+use Rattle.py_grammar.specs.Grammar.{Spells, RowOf, Yields, Params, Several, PartOf, Parts, Tail, Expression, Exprs, Targets, Target, SomeParams}
 use Rattle.py_grammar.specs.Parse.{Parser, found, parse, row_of, item, yields, params, is_word, is_nothing, pure, refuse, read_level, read_exprs, read_targets, read_target, read_yield, read_params, read_some_params, sees_word}
 use Rattle.py_grammar.specs.Laws.{IsRead, IsSpelled, Took}
 use Rattle.py_grammar.proofs.Roles.{Over, follows_role, over_exprs, yield_follow, over_targets, behind_target, over_params}
@@ -19,7 +19,7 @@ use Rattle.py_grammar.proofs.OperationsRead.{whole}
 use Rattle.py_grammar.proofs.PartsRead.{row_reads, row_fronted}
 use Rattle.py_grammar.proofs.Complete.{complete, complete_row, complete_part, complete_yields, complete_params, begins_yields}
 use Rattle.py_grammar.proofs.Apart.{bind_some, chosen, guarded, given, word_front, sees_word_mark}
-use Rattle.py_grammar.proofs.PartsSpelled.{row_sound, row_front, item_sound, params_sound, fronted_part, took}
+use Rattle.py_grammar.proofs.PartsSpelled.{row_sound, row_front, item_sound, params_sound, took}
 use Rattle.py_grammar.proofs.BracketsSpelled.{yields_sound}
 use Rattle.py_grammar.proofs.Sound.{parse_sound}
 
@@ -81,7 +81,7 @@ targets_spelled d i p h =
 pub target_read : IsRead Target follows_target read_target
 unfolding read_target
 target_read h _ used (Target.target a) d low rest follows =
-    rw (complete_part a (length (used ++ rest) + 1) (omega (arith, length-append used rest)) d low rest (behind_target (mark rest) follows), fronted_part a rest) refl
+    rw (complete_part a (length (used ++ rest) + 1) (omega (arith, length-append used rest)) d low rest (behind_target (mark rest) follows)) refl
 
 pub target_spelled : IsSpelled Target read_target
 unfolding read_target
@@ -90,8 +90,7 @@ target_spelled d i p h =
     let v = bind_some (item (parse n) n row.Targets d i) _ p h in
     let x = v.0 in
     let t = item_sound (parse n) (parse_sound n) n row.Targets d i (x, v.1) v.2 in
-    let lines : line i ≡ line t.used = ap line t.cut ∙ fronted_part t.tree v.1 in
-    given (record { used = t.used; cut = t.cut; tree = subst (λ l. Target x.height (alone l x.tree) t.used) (sym lines) (Target.target t.tree); low = t.low }) v.3
+    given (record { used = t.used; cut = t.cut; tree = Target.target t.tree; low = t.low }) v.3
 
 pub yield_read : IsRead Yields follows_yield read_yield
 unfolding read_yield

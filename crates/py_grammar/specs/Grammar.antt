@@ -80,9 +80,9 @@ combined line (o.Junction j) x y = e.Junction line j x y
 combined line (o.Binary op) x y = e.Binary line op x y
 
 -- an item that stands by itself, without a comma
-abbrev pub alone : ℕ → Item Expr → Expr
-alone line (it.One x) = x
-alone line (it.Star x) = e.Star line x
+abbrev pub alone : Item Expr → Expr
+alone (it.One x) = x
+alone (it.Star line x) = e.Star line x
 
 -- what stands several times: parts of a list with commas, comparisons, and clauses of a comprehension
 pub data Parts : Type 0 where
@@ -164,7 +164,7 @@ mutual
 
   -- exprs or targets (reference, sections 6.15 and 7.2): an item by itself, or a tuple, whose line is n
   pub data RowOf : Row → ℕ → ℕ → Expr → List Token → Type 0 where
-    single : {r : Row} {n h : ℕ} {i : Item Expr} {xs : List Token} → PartOf (Parts.items r) h i xs → RowOf r n h (alone (line xs) i) xs
+    single : {r : Row} {n h : ℕ} {i : Item Expr} {xs : List Token} → PartOf (Parts.items r) h i xs → RowOf r n h (alone i) xs
     tuple : {r : Row} {n g h : ℕ} {i : Item Expr} {is : List (Item Expr)} {t : Token} {xs ys : List Token} → PartOf (Parts.items r) g i xs → Tail (Parts.items r) h is (t ∷ ys)
         → RowOf r n (max g h + 1) (e.Tuple n (i ∷ is)) (xs ++ t ∷ ys)
 
@@ -187,7 +187,7 @@ mutual
   pub data PartOf : (p : Parts) → ℕ → Part p → List Token → Type 0 where
     -- an item of exprs or targets
     item : {r : Row} {h : ℕ} {x : Expr} {xs : List Token} → Spells (plain_level r) h x xs → PartOf (Parts.items r) h (it.One x) xs
-    star_item : {r : Row} {h : ℕ} {x : Expr} {xs : List Token} (t : Token) → IsSign t s.Star → Spells (star_level r) h x xs → PartOf (Parts.items r) h (it.Star x) (t ∷ xs)
+    star_item : {r : Row} {h : ℕ} {x : Expr} {xs : List Token} (t : Token) → IsSign t s.Star → Spells (star_level r) h x xs → PartOf (Parts.items r) h (it.Star t.line x) (t ∷ xs)
     -- expr | "*" expr | NAME "=" expr | "**" expr (reference, section 6.3.4)
     argument : {h : ℕ} {x : Expr} {xs : List Token} → Spells expression h x xs → PartOf Parts.arguments h (ar.Plain x) xs
     star_argument : {h : ℕ} {x : Expr} {xs : List Token} (t : Token) → IsSign t s.Star → Spells expression h x xs → PartOf Parts.arguments h (ar.Star x) (t ∷ xs)
@@ -272,7 +272,7 @@ Targets h x ts = RowOf row.Targets (line ts) h x ts
 
 -- one target
 pub data Target : ℕ → Expr → List Token → Type 0 where
-  target : {h : ℕ} {i : Item Expr} {xs : List Token} → PartOf (Parts.items row.Targets) h i xs → Target h (alone (line xs) i) xs
+  target : {h : ℕ} {i : Item Expr} {xs : List Token} → PartOf (Parts.items row.Targets) h i xs → Target h (alone i) xs
 
 -- params, of which there is one at least
 pub data SomeParams : ℕ → List (Param Expr) → List Token → Type 0 where

@@ -224,7 +224,7 @@ module _ (again : ℕ → ℕ → Parser (Found Expr)) (turns : ℕ) where
   -- ---- parts
 
   unfoldable pub item : Row → ℕ → Parser (Found (Item Expr))
-  item row d = λ i. if sees s.Star i then and_then (again (star_level row) d (next i)) (λ x. pure (found (it.Star x.tree) x.height)) else and_then (again (plain_level row) d i) (λ x. pure (found (it.One x.tree) x.height))
+  item row d = λ i. if sees s.Star i then and_then (again (star_level row) d (next i)) (λ x. pure (found (it.Star (line i) x.tree) x.height)) else and_then (again (plain_level row) d i) (λ x. pure (found (it.One x.tree) x.height))
 
   unfoldable pub keyword : ℕ → Parser (Found (Argument Expr))
   keyword d = do
@@ -296,15 +296,14 @@ module _ (again : ℕ → ℕ → Parser (Found Expr)) (turns : ℕ) where
   run_from p read d zero acc = refuse
   run_from p read d (suc n) acc = λ i. if begins p (mark i) then and_then (read d i) (λ x. run_from p read d n (with_part acc x)) else Some (acc, i)
 
-  -- what stands behind the first item: an item by itself begins on the line start, a tuple on the line at
-  unfoldable pub row_behind : ℕ → ℕ → Row → ℕ → Found (Item Expr) → Parser (Found Expr)
-  row_behind at start row d x = λ i. if sees s.Comma i then and_then (tail_from (Parts.items row) (item row) (d - 1) turns (only x) i) (λ items. tall d items.height (e.Tuple at items.tree)) else Some (found (alone start x.tree) x.height, i)
+  -- what stands behind the first item: nothing, or the others of a tuple, which begins on the line at
+  unfoldable pub row_behind : ℕ → Row → ℕ → Found (Item Expr) → Parser (Found Expr)
+  row_behind at row d x = λ i. if sees s.Comma i then and_then (tail_from (Parts.items row) (item row) (d - 1) turns (only x) i) (λ items. tall d items.height (e.Tuple at items.tree)) else Some (found (alone x.tree) x.height, i)
 
   unfoldable pub row_of : ℕ → Row → ℕ → Parser (Found Expr)
   row_of at row d = do
-    start ← here
     x ← item row d
-    row_behind at start row d x
+    row_behind at row d x
 
   unfoldable pub some_params : ℕ → Parser (Found (List (Param Expr)))
   some_params d = λ i. if begins_param (mark i) then and_then (param d i) (λ p. tail_from Parts.params param d turns (only p)) else Some (found [] 0, i)
@@ -351,17 +350,16 @@ module _ (again : ℕ → ℕ → Parser (Found Expr)) (turns : ℕ) where
 
   abbrev pub generator : ℕ → ℕ → ℕ → Item Expr → Parser (Found Expr)
   generator at d h (it.One x) = comprehension (d - 1) >>= λ c. tall d (max h c.height) (e.Generator at x c.tree)
-  generator at d h (it.Star x) = refuse
+  generator at d h (it.Star n x) = refuse
 
   -- what stands behind the first item
-  unfoldable pub round_behind : ℕ → ℕ → ℕ → Found (Item Expr) → Parser (Found Expr)
-  round_behind at start d x = λ i. if sees_word w.For i then generator at d x.height x.tree i else row_behind at start row.Expressions d x i
+  unfoldable pub round_behind : ℕ → ℕ → Found (Item Expr) → Parser (Found Expr)
+  round_behind at d x = λ i. if sees_word w.For i then generator at d x.height x.tree i else row_behind at row.Expressions d x i
 
   abbrev pub round_first : ℕ → ℕ → Parser (Found Expr)
   round_first at d = do
-    start ← here
     x ← item row.Expressions d
-    round_behind at start d x
+    round_behind at d x
 
   abbrev pub round_by : ℕ → ℕ → Mark → Parser (Found Expr)
   round_by at d (m.Sign s.RightParen) = tall d 0 (e.Tuple at [])
@@ -373,7 +371,7 @@ module _ (again : ℕ → ℕ → Parser (Found Expr)) (turns : ℕ) where
 
   abbrev pub list_of : ℕ → ℕ → ℕ → Item Expr → Parser (Found Expr)
   list_of at d h (it.One x) = comprehension (d - 1) >>= λ c. tall d (max h c.height) (e.ListComprehension at x c.tree)
-  list_of at d h (it.Star x) = refuse
+  list_of at d h (it.Star n x) = refuse
 
   unfoldable pub square_behind : ℕ → ℕ → Found (Item Expr) → Parser (Found Expr)
   square_behind at d x = λ i. if sees_word w.For i then list_of at d x.height x.tree i else and_then (tail_from (Parts.items row.Expressions) (item row.Expressions) (d - 1) turns (only x) i) (λ items. tall d items.height (e.List at items.tree))
@@ -582,7 +580,7 @@ unfoldable pub read_targets : ℕ → Parser (Found Expr)
 read_targets d i = row_of (parse (length i + 1)) (length i + 1) (line i) row.Targets d i
 
 unfoldable pub read_target : ℕ → Parser (Found Expr)
-read_target d i = and_then (item (parse (length i + 1)) (length i + 1) row.Targets d i) (λ x. pure (found (alone (line i) x.tree) x.height))
+read_target d i = and_then (item (parse (length i + 1)) (length i + 1) row.Targets d i) (λ x. pure (found (alone x.tree) x.height))
 
 unfoldable pub read_yield : ℕ → Parser (Found Expr)
 read_yield d i = if sees_word w.Yield i then yields (parse (length i + 1)) (length i + 1) d i else None
@@ -590,11 +588,11 @@ read_yield d i = if sees_word w.Yield i then yields (parse (length i + 1)) (leng
 -- whether an item is an expression by itself, with neither a star before it nor a comma behind
 abbrev pub is_alone : Item Expr → List Token → Bool
 is_alone (it.One x) i = not (sees s.Comma i)
-is_alone (it.Star x) i = false
+is_alone (it.Star line x) i = false
 
 -- a list of expressions, and whether it is an expression by itself
 unfoldable pub read_row : ℕ → Parser (Found Expr × Bool)
-read_row d i = and_then (item (parse (length i + 1)) (length i + 1) row.Expressions d i) (λ x j. and_then (row_behind (parse (length i + 1)) (length i + 1) (line i) (line i) row.Expressions d x j) (λ all. pure (all, is_alone x.tree j)))
+read_row d i = and_then (item (parse (length i + 1)) (length i + 1) row.Expressions d i) (λ x j. and_then (row_behind (parse (length i + 1)) (length i + 1) (line i) row.Expressions d x j) (λ all. pure (all, is_alone x.tree j)))
 
 -- [ params ]
 unfoldable pub read_params : ℕ → Parser (Found (List (Param Expr)))

@@ -8,7 +8,7 @@ use Rattle.nu_rows.proofs.Direct.{Direct, act_direct, yield_direct, sub_direct, 
 use Rattle.nu_calls.specs.Calls.{operate, yields}
 use Rattle.py_meaning.specs.Syntax as syntax
 use Rattle.py_meaning.specs.Frames.{R, L, uses, load, store, unbind}
-use Rattle.py_meaning.specs.Expressions.{is_one_of, stopped_or, unless_stopped, delegated, resumes, sends, closes, throws, thrown, woken, delegate_turn, delegate, function, put_all, bare_function, as_tuple, negates, keywords_begun, expression, each, named, compare, fill, enter, pass}
+use Rattle.py_meaning.specs.Expressions.{is_one_of, stopped_or, unless_stopped, delegated, resumes, sends, closes, throws, thrown, woken, delegate_turn, delegate, function, put_all, bare_function, as_tuple, compared, keywords_begun, expression, each, named, compare, fill, enter, pass}
 
 pub op_direct : (l : L) (line : ℕ) (o : Op) (args : List Value) → Direct (operate l line o args)
 op_direct l line o args = line_direct _ _ (sub_direct _) (λ x. act_direct _)
@@ -105,9 +105,9 @@ bare_direct l line code cells =
 tuple_direct : (l : L) (line : ℕ) (list : Value) → Direct (as_tuple l line list)
 tuple_direct l line list = value_direct _ _ (op_direct l line _ _) (λ c. op_direct l line _ _)
 
-negates_direct : (l : L) (line : ℕ) (b : Bool) (v : Value) → Direct (negates l line b v)
-negates_direct l line false v = act_direct _
-negates_direct l line true v = op_direct l line _ _
+compared_direct : (l : L) (line : ℕ) (o : Op) (b : Bool) (v w : Value) → Direct (compared l line o b v w)
+compared_direct l line o false v w = op_direct l line _ _
+compared_direct l line o true v w = value_direct _ _ (op_direct l line _ _) (λ u. op_direct l line _ _)
 
 keywords_direct : (l : L) (line : ℕ) (d : Option Value) (k : Value → R) → ((v : Value) → Direct (k v)) → Direct (keywords_begun l line d k)
 keywords_direct l line (Some d) k h = h d
@@ -152,9 +152,9 @@ mutual
 
   compare_direct : (l : L) (line : ℕ) (v : Value) (links : syntax.Links) → Direct (compare l line v links)
   compare_direct l line v (syntax.LastLink o negated x) =
-      value_direct _ _ (expression_direct l x) (λ w. value_direct _ _ (op_direct l line _ _) (negates_direct l line negated))
+      value_direct _ _ (expression_direct l x) (compared_direct l line o negated v)
   compare_direct l line v (syntax.Link o negated x links) =
-      value_direct _ _ (expression_direct l x) (λ w. value_direct _ _ (value_direct _ _ (op_direct l line _ _) (negates_direct l line negated)) (λ u.
+      value_direct _ _ (expression_direct l x) (λ w. value_direct _ _ (compared_direct l line o negated v w) (λ u.
       value_direct _ _ (op_direct l line _ _) (λ b. choose_direct b _ _ (compare_direct l line w links) (act_direct _))))
 
   fill_direct : (l : L) (line : ℕ) (list : Value) (items : syntax.Items) → Direct (fill l line list items)

@@ -2,6 +2,7 @@
 use Rattle.std.specs.Prelude.{ℕ, pos, List, [], ◌∷◌, map, Option, Some, None, Bool, true, false, if◌then◌else◌, codes, slice_get}
 use Rattle.nu_value.specs.declared.value.Value.{Value}
 use Rattle.nu_value.specs.declared.value.Value.TheVariants as value
+use Rattle.op_rules.specs.declared.op.Op.{Op}
 use Rattle.op_rules.specs.declared.op.Op.TheVariants as op
 use Rattle.nu_rows.specs.Rows.{End, Next, Leave, Raised, Return, Stopped, Undefined, Act, Then, Loop, Sub}
 use Rattle.nu_rows.specs.Words.{then_value, ends_with, choose}
@@ -123,9 +124,10 @@ bare_function l line code cells =
 abbrev pub as_tuple : L → ℕ → Value → R
 as_tuple l line list = then_value (operate l line op.Native (text (codes "tuple") ∷ [])) (λ c. operate l line op.Call (c ∷ list ∷ []))
 
-abbrev pub negates : L → ℕ → Bool → Value → R
-negates l line false v = gives v
-negates l line true v = operate l line op.Not (v ∷ [])
+-- two values compared, `negated` for `not in`
+abbrev pub compared : L → ℕ → Op → Bool → Value → Value → R
+compared l line o false v w = operate l line o (v ∷ w ∷ [])
+compared l line o true v w = then_value (operate l line o (v ∷ w ∷ [])) (λ u. operate l line op.Not (u ∷ []))
 
 -- the dict of a call's keywords: made before the first of them, else at the end
 abbrev pub keywords_begun : L → ℕ → Option Value → (Value → R) → R
@@ -179,9 +181,9 @@ abbrev mutual
   -- a chain, from the value of the operand on the left
   pub compare : L → ℕ → Value → syntax.Links → R
   compare l line v (syntax.LastLink o negated x) =
-      then_value (expression l x) (λ w. then_value (operate l line o (v ∷ w ∷ [])) (negates l line negated))
+      then_value (expression l x) (compared l line o negated v)
   compare l line v (syntax.Link o negated x links) =
-      then_value (expression l x) (λ w. then_value (then_value (operate l line o (v ∷ w ∷ [])) (negates l line negated)) (λ u.
+      then_value (expression l x) (λ w. then_value (compared l line o negated v w) (λ u.
       then_value (truth l line u) (λ b. choose b (compare l line w links) (gives u))))
 
   -- the items go into a list

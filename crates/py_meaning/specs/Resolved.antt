@@ -109,16 +109,16 @@ operation line o xs = valued (λ c. made (syntax.Operation line o) (values c xs)
 
 abbrev pub is_star : {A : Type 0} → Item A → Bool
 is_star (item.One x) = false
-is_star (item.Star x) = true
+is_star (item.Star line x) = true
 
 abbrev pub inner : {A : Type 0} → Item A → A
 inner (item.One x) = x
-inner (item.Star x) = x
+inner (item.Star line x) = x
 
 abbrev pub items : Context → List (Item Part) → Making syntax.Items
 items c [] = pure syntax.NoItem
 items c (item.One x ∷ xs) = and_then (x.value c) (λ y. made (syntax.Single y) (items c xs))
-items c (item.Star x ∷ xs) = and_then (x.value c) (λ y. made (syntax.Spread y) (items c xs))
+items c (item.Star line x ∷ xs) = and_then (x.value c) (λ y. made (syntax.Spread y) (items c xs))
 
 abbrev pub targets : Context → List Part → Making syntax.Targets
 targets c [] = pure syntax.NoTarget
@@ -127,12 +127,12 @@ targets c (x ∷ xs) = and_then (x.target c) (λ t. made (syntax.AlsoTo t) (targ
 abbrev pub before_star : {A : Type 0} → List (Item A) → List A
 before_star [] = []
 before_star (item.One x ∷ xs) = x ∷ before_star xs
-before_star (item.Star x ∷ xs) = []
+before_star (item.Star line x ∷ xs) = []
 
 abbrev pub from_star : {A : Type 0} → List (Item A) → List A
 from_star [] = []
 from_star (item.One x ∷ xs) = from_star xs
-from_star (item.Star x ∷ xs) = x ∷ map inner xs
+from_star (item.Star line x ∷ xs) = x ∷ map inner xs
 
 -- targets, of which one may have a star
 abbrev pub many : Context → ℕ → List Part → List Part → Making syntax.Target

@@ -9,3 +9,6 @@ mod Changed
 mod Filled
 mod NearestHome
 pub mod OneRefusal
+mod Grown
+mod NestedExpressions
+mod NestedScopes

@@ -8,3 +8,4 @@ pub mod Nearest
 pub mod Passes
 pub mod Filling
 pub mod Resolve
+pub mod Nested

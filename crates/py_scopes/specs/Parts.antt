@@ -23,7 +23,7 @@ option_of f (Some x) = Some (f x)
 
 abbrev pub item_of : {A B : Type 0} → (A → B) → Item A → Item B
 item_of f (item.One x) = item.One (f x)
-item_of f (item.Star x) = item.Star (f x)
+item_of f (item.Star line x) = item.Star line (f x)
 
 abbrev pub entry_of : {A B : Type 0} → (A → B) → Entry A → Entry B
 entry_of f (entry.Pair key value) = entry.Pair (f key) (f value)

@@ -1,6 +1,6 @@
 -- What stands where in a script: a part of the tree denotes what it adds, given the place where it stands.
 -- Everything stands in the order of the text, so the scopes get their numbers in that order.
-use Rattle.std.specs.Prelude.{ℕ, Bool, true, false, List, [], ◌∷◌, ◌++◌, length, map, codes, not, if◌then◌else◌, Option, Some, None, slice_get, option_map}
+use Rattle.std.specs.Prelude.{ℕ, Bool, true, false, List, [], ◌∷◌, ◌++◌, length, map, codes, not, ◌&&◌, if◌then◌else◌, Option, Some, None, slice_get, option_map}
 use Rattle.py_ast.specs.declared.expr.Item.{Item}
 use Rattle.py_ast.specs.declared.expr.Item.TheVariants as item
 use Rattle.py_ast.specs.declared.expr.Entry.{Entry}
@@ -107,13 +107,9 @@ abbrev pub is_value : Role → Bool
 is_value role.Value = true
 is_value _ = false
 
-abbrev pub is_stray : Role → Bool
-is_stray role.Stray = true
-is_stray _ = false
-
+-- what stands for one thing alone
 abbrev pub is_single : Role → Bool
 is_single role.Augmented = true
-is_single role.Stray = true
 is_single _ = false
 
 abbrev pub misplaced_if : Bool → ℕ → Adds
@@ -134,16 +130,16 @@ listed role.Target = role.Target
 listed role.Deleted = role.Deleted
 listed _ = role.Value
 
--- a list of targets has one star, that of `del` none
-abbrev pub starred : Role → Bool → Role
-starred role.Value before = role.Value
-starred role.Target false = role.Target
-starred _ before = role.Stray
+-- whether a star breaks the rules, with or without a star before it: a list of targets has one at most, that of `del` none
+abbrev pub is_stray : Role → Bool → Bool
+is_stray role.Value before = false
+is_stray role.Target before = before
+is_stray _ before = true
 
 abbrev pub items : Role → Bool → List (Item Part) → Adds
 items wanted before [] place s = s
 items wanted before (item.One x ∷ xs) place s = items wanted before xs place (x wanted place s)
-items wanted before (item.Star x ∷ xs) place s = items wanted true xs place (x (starred wanted before) place s)
+items wanted before (item.Star line x ∷ xs) place s = items wanted true xs place (x wanted place (misplaced_if (is_stray wanted before) line place s))
 
 -- a tuple or a list
 abbrev pub list : ℕ → List (Item Part) → Part
@@ -164,7 +160,7 @@ subscripts (subscript.Slice lower upper step) = all (value_if lower ∷ value_if
 
 -- an index is a target, a slice is none
 abbrev pub index : ℕ → Part → Subscript Part → Part
-index line x at wanted place s = subscripts at place (x role.Value place (misplaced_if (if is_slice at then not (is_value wanted) else is_stray wanted) line place s))
+index line x at wanted place s = subscripts at place (x role.Value place (misplaced_if (is_slice at && not (is_value wanted)) line place s))
 
 -- Other parts of expressions
 
@@ -219,14 +215,14 @@ expr_adds (Expr-F.True line) = plain line (all [])
 expr_adds (Expr-F.False line) = plain line (all [])
 expr_adds (Expr-F.Number line value) = plain line (all [])
 expr_adds (Expr-F.Text line text) = plain line (all [])
-expr_adds (Expr-F.Name line x) = λ wanted place s. name line (named wanted) x place (misplaced_if (is_stray wanted) line place s)
+expr_adds (Expr-F.Name line x) = λ wanted. name line (named wanted) x
 expr_adds (Expr-F.Tuple line xs) = list line xs
 expr_adds (Expr-F.List line xs) = list line xs
 expr_adds (Expr-F.Dict line entries) = plain line (all (map entry_adds entries))
 expr_adds (Expr-F.ListComprehension line element clauses) = plain line (comprehension line kind.ListComprehension (element ∷ []) clauses)
 expr_adds (Expr-F.DictComprehension line key value clauses) = plain line (comprehension line kind.DictComprehension (key ∷ value ∷ []) clauses)
 expr_adds (Expr-F.Generator line element clauses) = plain line (comprehension line kind.Generator (element ∷ []) clauses)
-expr_adds (Expr-F.Attribute line x attribute) = λ wanted place s. site line (what.Attribute attribute) place (x role.Value place (misplaced_if (is_stray wanted) line place s))
+expr_adds (Expr-F.Attribute line x attribute) = λ wanted. all (x role.Value ∷ site line (what.Attribute attribute) ∷ [])
 expr_adds (Expr-F.Index line x at) = index line x at
 expr_adds (Expr-F.Call line called xs) = plain line (λ place s. arguments line xs place (called role.Value place s))
 expr_adds (Expr-F.Unary line sign x) = plain line (x role.Value)

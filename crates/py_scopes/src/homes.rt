@@ -3,6 +3,7 @@
 ghost use Rattle.std.specs.Prelude.{◌≡◌, ◌∷◌, Some, length};
 ghost use Rattle.py_scopes.specs.Homes as spec;
 ghost use Rattle.py_scopes.specs.Nearest.{HasNearestHome};
+ghost use Rattle.py_scopes.specs.Nested.{ScopesNest};
 ghost use Rattle.py_scopes.specs.Seen.{Sees};
 
 use crate::seen::{Seen, is_listed};
@@ -94,4 +95,9 @@ pub fn home<'a>(survey: &Survey, seen: &Seen<'a>, name: &'a str, scope: usize) -
 /// for what stands in the class itself only; where there is none, it is the module.
 pub fn has_nearest_home()
     ensures { HasNearestHome }
+{}
+
+/// The scopes of a script nest: each but the first, the module's, stands directly in one of a lower number.
+pub fn scopes_nest()
+    ensures { ScopesNest }
 {}

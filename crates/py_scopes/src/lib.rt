@@ -16,7 +16,8 @@ mod tests;
 
 use crate::scopes::resolved;
 pub use end::ScopeEnd;
-pub use homes::has_nearest_home;
+pub use homes::{has_nearest_home, scopes_nest};
+pub use names::is_built_in;
 use py_ast::{Scoped, Script};
 use std::alloc::Global;
 

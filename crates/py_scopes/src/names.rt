@@ -150,8 +150,9 @@ fn is_special(name: &str) -> bool
     is_among(&SPECIAL, name)
 }
 
+/// Whether it is a built-in name (Library Reference, "Built-in Functions", "Built-in Types" and "Built-in Exceptions").
 #[tactic(auto, unfolding(crate::specs::Names::built_in))]
-fn is_built_in(name: &str) -> bool
+pub fn is_built_in(name: &str) -> bool
     ensures { result ≡ spec.is_among spec.built_in name.now }
 {
     is_among(&BUILT_IN, name)

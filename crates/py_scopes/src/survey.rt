@@ -18,8 +18,6 @@ pub enum Role {
     Augmented,
     /// It is deleted.
     Deleted,
-    /// It stands under a star that no rule allows.
-    Stray,
 }
 
 /// The place where something stands.

@@ -128,7 +128,6 @@ impl Surveyor {
             | Expr::Number(line, _)
             | Expr::Text(line, _) => self.misplaced_if(!is_value(role), place, *line),
             Expr::Name(line, name) => {
-                self.misplaced_if(is_stray(role), place, *line)?;
                 let name = self.spelled(place, name)?;
                 self.site(place, *line, named(role, name))
             }
@@ -157,18 +156,12 @@ impl Surveyor {
                 self.clauses(own, place, clauses.get())
             }
             Expr::Attribute(line, value, attribute) => {
-                self.misplaced_if(is_stray(role), place, *line)?;
                 self.expr(Role::Value, place, value.get())?;
                 self.site(place, *line, What::Attribute(attribute.share()?))
             }
             Expr::Index(line, value, at) => {
                 let at = at.get();
-                let wrong = if is_slice(at) {
-                    !is_value(role)
-                } else {
-                    is_stray(role)
-                };
-                self.misplaced_if(wrong, place, *line)?;
+                self.misplaced_if(is_slice(at) && !is_value(role), place, *line)?;
                 self.expr(Role::Value, place, value.get())?;
                 self.subscript(place, at)
             }
@@ -230,8 +223,9 @@ impl Surveyor {
         for x in xs {
             match x {
                 Item::One(x) => self.expr(role, place, x)?,
-                Item::Star(x) => {
-                    self.expr(starred(role, has_star), place, x)?;
+                Item::Star(line, x) => {
+                    self.misplaced_if(is_stray(role, has_star), place, *line)?;
+                    self.expr(role, place, x)?;
                     has_star = true;
                 }
             }
@@ -568,16 +562,10 @@ fn is_value(role: Role) -> bool
     matches!(role, Role::Value)
 }
 
-fn is_stray(role: Role) -> bool
-    ensures { result ≡ spec.is_stray role }
-{
-    matches!(role, Role::Stray)
-}
-
 fn is_single(role: Role) -> bool
     ensures { result ≡ spec.is_single role }
 {
-    matches!(role, Role::Augmented | Role::Stray)
+    matches!(role, Role::Augmented)
 }
 
 /// A name is bound where it is a target.
@@ -600,14 +588,14 @@ fn listed(role: Role) -> Role
     }
 }
 
-/// What stands behind a star in a list, with or without a star before it.
-fn starred(role: Role, before: bool) -> Role
-    ensures { result ≡ spec.starred role before }
+/// Whether a star in a list breaks the rules, with or without a star before it.
+fn is_stray(role: Role, before: bool) -> bool
+    ensures { result ≡ spec.is_stray role before }
 {
     match role {
-        Role::Value => Role::Value,
-        Role::Target if !before => Role::Target,
-        _ => Role::Stray,
+        Role::Value => false,
+        Role::Target => before,
+        Role::Augmented | Role::Deleted => true,
     }
 }
 

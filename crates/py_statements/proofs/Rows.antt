@@ -18,14 +18,14 @@ not_star (m.Sign s.Star) h = cc
 not_star _ h = refl
 
 row_by : (d : ℕ) (i : List Token) (x : Found (Item Expr)) (l : List Token) (f : Found Expr) (j : List Token) → item (parse (length i + 1)) (length i + 1) row.Expressions d i ≡ Some (x, l)
-    → row_behind (parse (length i + 1)) (length i + 1) (line i) (line i) row.Expressions d x l ≡ Some (f, j) → read_row d i ≡ Some ((f, is_alone x.tree l), j)
+    → row_behind (parse (length i + 1)) (length i + 1) (line i) row.Expressions d x l ≡ Some (f, j) → read_row d i ≡ Some ((f, is_alone x.tree l), j)
 unfolding read_row
 row_by d i x l f j h e = rw (h, e) refl
 
 pub row_reads : (d : ℕ) (i : List Token) (f : Found Expr) (j : List Token) → read_exprs d i ≡ Some (f, j) → (b : Bool) × (read_row d i ≡ Some ((f, b), j))
 unfolding read_exprs row_of
 row_reads d i f j h =
-    let a = bind_some (item (parse (length i + 1)) (length i + 1) row.Expressions d i) (row_behind (parse (length i + 1)) (length i + 1) (line i) (line i) row.Expressions d) (f, j) h in
+    let a = bind_some (item (parse (length i + 1)) (length i + 1) row.Expressions d i) (row_behind (parse (length i + 1)) (length i + 1) (line i) row.Expressions d) (f, j) h in
     (is_alone a.0.tree a.1, row_by d i a.0 a.1 f j a.2 a.3)
 
 pub row_one : (d : ℕ) (i : List Token) (f : Found Expr) (j : List Token) → can_begin expression (mark i) ≡ true → read_level expression d i ≡ Some (f, j) → is_sign s.Comma (mark j) ≡ false → read_row d i ≡ Some ((f, true), j)

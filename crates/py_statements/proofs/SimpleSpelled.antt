@@ -116,7 +116,7 @@ record RowSays (d : ℕ) (i : List Token) (f : Found Expr) (b : Bool) (j : List 
 
 -- an item by itself is an expression
 item_says : (d : ℕ) (i : List Token) (x : Found (Item Expr)) (l : List Token) (f : Found Expr) (j : List Token) → item (parse (length i + 1)) (length i + 1) row.Expressions d i ≡ Some (x, l)
-    → row_behind (parse (length i + 1)) (length i + 1) (line i) (line i) row.Expressions d x l ≡ Some (f, j) → is_alone x.tree l ≡ true → read_level expression d i ≡ Some (f, j)
+    → row_behind (parse (length i + 1)) (length i + 1) (line i) row.Expressions d x l ≡ Some (f, j) → is_alone x.tree l ≡ true → read_level expression d i ≡ Some (f, j)
 unfolding item row_behind read_level
 item_says d i x l f j h e one = elim (chosen (sees s.Star i) _ _ _ h) [
   | inl star ↦
@@ -130,7 +130,7 @@ item_says d i x l f j h e one = elim (chosen (sees s.Star i) _ _ _ h) [
       let no_comma = not_true (sees s.Comma l) (ap (λ r. is_alone r.0.tree l) same ∙ one) in
       elim (chosen (sees s.Comma l) _ _ (Some (f, j)) e) [
         | inl comma ↦ let wrong : true ≡ false = sym comma.0 ∙ no_comma in cc
-        | inr row ↦ b.2 ∙ ap (λ r. Some (found (alone (line i) r.0.tree) r.0.height, r.1)) same ∙ row.1
+        | inr row ↦ b.2 ∙ ap (λ r. Some (found (alone r.0.tree) r.0.height, r.1)) same ∙ row.1
       ]
 ]
   where
@@ -139,7 +139,7 @@ item_says d i x l f j h e one = elim (chosen (sees s.Star i) _ _ _ h) [
     not_true false h = refl
 
 exprs_of : (d : ℕ) (i : List Token) (x : Found (Item Expr)) (l : List Token) (f : Found Expr) (j : List Token) → item (parse (length i + 1)) (length i + 1) row.Expressions d i ≡ Some (x, l)
-    → row_behind (parse (length i + 1)) (length i + 1) (line i) (line i) row.Expressions d x l ≡ Some (f, j) → read_exprs d i ≡ Some (f, j)
+    → row_behind (parse (length i + 1)) (length i + 1) (line i) row.Expressions d x l ≡ Some (f, j) → read_exprs d i ≡ Some (f, j)
 unfolding read_exprs row_of
 exprs_of d i x l f j h e = rw (h, e) refl
 
@@ -147,7 +147,7 @@ row_says : (d : ℕ) (i : List Token) (f : Found Expr) (b : Bool) (j : List Toke
 unfolding read_row
 row_says d i f b j h =
     let a = bind_some (item (parse (length i + 1)) (length i + 1) row.Expressions d i) _ ((f, b), j) h in
-    let c = bind_some (row_behind (parse (length i + 1)) (length i + 1) (line i) (line i) row.Expressions d a.0 a.1) _ ((f, b), j) a.3 in
+    let c = bind_some (row_behind (parse (length i + 1)) (length i + 1) (line i) row.Expressions d a.0 a.1) _ ((f, b), j) a.3 in
     let same = some_inj c.3 in
     let behind_it = c.2 ∙ ap (λ r. Some (r.0.0, r.1)) same in
     record {

@@ -9,7 +9,7 @@ use Rattle.node_tree.specs.declared.node.Argument.TheVariants as argument
 use Rattle.node_tree.specs.declared.node.Operand.{Operand}
 use Rattle.node_tree.specs.declared.node.Operand.TheVariants as operand
 use Rattle.node_tree.specs.Blocks as tree
-use Rattle.node_tree.specs.Contents.{form_total, total, form_operations, operations, form_constants, constants, operand_constants}
+use Rattle.node_tree.specs.Contents.{form_total, total, form_operations, operations, form_constants, constants, operand_constants, form_yields, yields}
 use Rattle.nu_carries.specs.Laws.{alone, if_block, turn_block, while_block}
 use Rattle.reform_loops.specs.Kept.{asks, flags}
 
@@ -40,3 +40,12 @@ module _ (counts : Const → Bool) where
       let turn = if_constants line t tb o (alone (tree.Loop (tree.append b (alone (tree.Leave 1))))) (tree.Follow (tree.Constant over (const.Bool true)) (alone (tree.Leave 1))) in
       let inner = total_append (form_constants counts) b (alone (tree.Leave 1)) in
       omega (arith, turn, inner)
+
+pub if_yields : (line t : ℕ) (tb : tree.Block) (o : Operand) (y n : tree.Block) → yields (if_block line t tb o y n) ≡ yields tb + yields y + yields n
+if_yields line t tb o y n = let e = if_total form_yields line t tb o y n in omega (arith, e)
+
+pub while_yields : (line over t : ℕ) (tb : tree.Block) (o : Operand) (b e : tree.Block) → yields (while_block line over t tb o b e) ≡ yields tb + yields b + yields e
+while_yields line over t tb o b e =
+    let turn = if_yields line t tb o (alone (tree.Loop (tree.append b (alone (tree.Leave 1))))) (tree.Follow (tree.Constant over (const.Bool true)) (alone (tree.Leave 1))) in
+    let inner = total_append form_yields b (alone (tree.Leave 1)) in
+    omega (arith, turn, inner)

@@ -4,7 +4,7 @@ ghost use Rattle.std.specs.Prelude.{◌≡◌, ℕ, ◌+◌, ◌≤◌, List, Bo
 ghost use Rattle.op_rules.specs.declared.constant.Const.{Const as Constant};
 ghost use Rattle.op_rules.specs.declared.op.Op.{Op as Operation};
 ghost use Rattle.node_tree.specs.declared.node.Argument.{Argument as Taken};
-ghost use Rattle.node_tree.specs.Contents.{operations, constants, operand_constants};
+ghost use Rattle.node_tree.specs.Contents.{operations, constants, operand_constants, yields};
 ghost use Rattle.node_tree.specs.Tree.{block};
 ghost use Rattle.py_meaning.specs.Syntax as syntax;
 ghost use Rattle.nu_carries.specs.Frames.{Homes, behind};
@@ -61,6 +61,7 @@ pub fn while_loop(
     ensures carries { IfOk result (λ b. (h : Homes) (low tl th bl bh ol oh : ℕ) (caught : Option ℕ) (x : syntax.Expression) (y z : syntax.Block) → behind h ≤ low → Within low temps.old tl th → Within low temps.old bl bh → Within low temps.old ol oh → CarriesExpression h tl th x (block test.block) test.value → CarriesBlock h bl bh caught y (block body) → CarriesBlock h ol oh caught z (block other) → CarriesStatement h low temps.new caught (syntax.While line x y z) (block b)) }
     ensures operations { IfOk result (λ b. (counts : Operation → List Taken → Bool) → operations counts (block b) ≡ operations counts (block test.block) + operations counts (block body) + operations counts (block other) + asks counts test.value) }
     ensures constants { IfOk result (λ b. (counts : Constant → Bool) → constants counts (block b) ≡ constants counts (block test.block) + constants counts (block body) + constants counts (block other) + operand_constants counts test.value + flags counts) }
+    ensures yields { IfOk result (λ b. yields (block b) ≡ yields (block test.block) + yields (block body) + yields (block other)) }
     ensures drawn { OnOk result (temps.new ≡ temps.old + 1 + 1) }
 {
     let over = temps.fresh()?;

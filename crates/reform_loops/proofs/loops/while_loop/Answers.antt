@@ -3,7 +3,7 @@ use Rattle.node_tree.specs.Tree.{block}
 use Rattle.nu_carries.specs.Laws.{while_block}
 use Rattle.nu_carries.proofs.Statements.{while_carried}
 use Rattle.reform_loops.proofs.Blocks.{while_is}
-use Rattle.reform_loops.proofs.Kept.{while_operations, while_constants}
+use Rattle.reform_loops.proofs.Kept.{while_operations, while_constants, while_yields}
 use Rattle.reform_loops.proofs.loops.while_loop.Goals as goal
 
 pub returns : goal.returns
@@ -14,5 +14,6 @@ returns c =
           rw (whole, c.in_ok-truth.ensures.ok, c.in_ok-truth.ensures.number, c.in_ok-over.ensures.ok, c.in_ok-over.ensures.number) (while_carried h low _ tl th bl bh ol oh c.args.line caught x y z _ _ _ _ st wt wb wo ct cb co);
       operations = λ counts. rw whole (while_operations counts c.args.line c.in_ok-over.over c.in_ok-truth.truth (block c.args.test.block) c.args.test.value (block c.args.body) (block c.args.other));
       constants = λ counts. rw whole (while_constants counts c.args.line c.in_ok-over.over c.in_ok-truth.truth (block c.args.test.block) c.args.test.value (block c.args.body) (block c.args.other));
+      yields = rw whole (while_yields c.args.line c.in_ok-over.over c.in_ok-truth.truth (block c.args.test.block) c.args.test.value (block c.args.body) (block c.args.other));
       drawn = rw (c.in_ok-truth.ensures.ok, c.in_ok-over.ensures.ok) refl;
     }

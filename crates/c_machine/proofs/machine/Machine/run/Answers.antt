@@ -1,11 +1,14 @@
 use Rattle.std.proofs.Common.{◌≡◌, ◌+◌, [], ◌++◌, refl, sym, ◌∙◌, ap, subst, arith, rules, None, Err}
+use Rattle.nu_run.specs.Steps.{More}
 use Rattle.nu_calls.specs.Rules.{table_rules}
+use Rattle.c_meaning.specs.State.{printed_in}
 use Rattle.c_meaning.specs.Step.{step}
 use Rattle.c_machine.specs.Machines.{answer_at_rest}
 use Rattle.c_machine.specs.Calls.{Runs, Walks, counted}
 use Rattle.c_machine.specs.Standing.{Outside, state_of, stands, printing}
+use Rattle.c_machine.specs.Walks.{Leads}
 use Rattle.c_machine.proofs.Sinks.{adds_nothing, adds_more}
-use Rattle.c_machine.proofs.Stretches.{Stretch, rest_none, rest_ended, at_work, answer_more, answer_ended, stretch_on, stretch_end, stretch_rest, run_goes, run_ends, runs_cut_at, counted_more}
+use Rattle.c_machine.proofs.Stretches.{Stretch, rest_none, rest_ended, at_work, answer_more, answer_ended, stretch_on, stretch_far, stretch_end, stretch_rest, run_goes, run_ends, runs_cut_at, counted_more, counted_sum}
 use Rattle.c_machine.proofs.machine.Machine.run.Goals as goal
 
 pub returns-in-Some-clause-runs : goal.returns-in-Some-clause-runs
@@ -71,17 +74,25 @@ pub loop-taken-preserved : goal.loop-taken-preserved
 loop-taken-preserved g c =
     let before = c.loop-taken.invariant in
     let said = rw c.in-More.is at c.in_ok-step.ensures in
+    let far = c.hurry-taken.ensures in
     let going = (rest_none _ _ before.works).1 in
+    let goes = answer_more _ said.answers in
+    let code : c.step.new.self.code ≡ c.args.self.now.code = said.code ∙ before.code in
     record {
-      code = said.code ∙ before.code;
-      works = at_work _ _ said.fails (answer_more _ said.answers);
-      steps = said.steps before.works ∙ ap (λ n. counted n 1) before.steps ∙ counted_more c.args.self.now.steps c.loop-taken.taken;
+      few = omega (arith, c.loop-taken-test.true, far.few);
+      code = far.code ∙ code;
+      works = at_work _ _ (far.failed ∙ said.fails) (far.end ∙ goes);
+      steps =
+          far.steps ∙ ap (λ n. counted n c.hurry-taken.result) (said.steps before.works ∙ ap (λ n. counted n 1) before.steps ∙ counted_more c.args.self.now.steps c.loop-taken.taken)
+          ∙ counted_sum c.args.self.now.steps (c.loop-taken.taken + 1) c.hurry-taken.result;
       input = said.input ∙ before.input;
       faults = said.count ∙ before.faults;
       stretch =
           let stretch = before.stretch in
           let now = said.takes before.works in
-          (stretch.0 ++ now.piece, adds_more _ _ _ _ _ stretch.1 now.adds, stretch_on c.args.self.now.code c.loop-taken.taken _ _ _ _ _ going stretch.2 (subst (λ k. (w : Outside) → step table_rules k (state_of c.loop-taken.self.standing.execution w) ≡ stands c.step.new.self.standing (printing w now.piece)) before.code now.leads));
+          let one = stretch_on c.args.self.now.code c.loop-taken.taken _ _ _ _ _ going stretch.2 (subst (λ k. (w : Outside) → step table_rules k (state_of c.loop-taken.self.standing.execution w) ≡ stands c.step.new.self.standing (printing w now.piece)) before.code now.leads) in
+          let more = subst (λ k. (w : Outside) → Leads (step table_rules k) printed_in c.hurry-taken.result c.hurry-taken.result (More (state_of c.step.new.self.standing.execution w)) (More (state_of c.hurry-taken.new.self.standing.execution w))) code far.leads in
+          (stretch.0 ++ now.piece, adds_more _ _ _ _ _ stretch.1 now.adds, stretch_far c.args.self.now.code (c.loop-taken.taken + 1) c.hurry-taken.result _ _ _ _ goes (far.end ∙ goes) one more);
     }
 
 pub returns-clause-runs : goal.returns-clause-runs
@@ -89,12 +100,12 @@ returns-clause-runs g c = λ works left.
     let before = c.loop-taken.invariant in
     let stretch = before.stretch in
     let going = (rest_none _ _ before.works).1 in
-    let all : c.loop-taken.taken ≡ c.args.steps = omega (arith, c.loop-taken-test.false, c.loop-taken.auto.taken-end) in
+    let all : c.loop-taken.taken ≡ c.args.steps = omega (arith, c.loop-taken-test.false, before.few) in
     (stretch.0, run_goes c.args.self.now.code c.args.steps c.loop-taken.taken _ _ stretch.0 left going (subst (λ n. Stretch c.args.self.now.code n c.loop-taken.taken c.args.self.now.standing c.loop-taken.self.standing stretch.0) all stretch.2), going, stretch.1)
 
 pub returns-clause-walks : goal.returns-clause-walks
 returns-clause-walks g c = λ works.
     let before = c.loop-taken.invariant in
     let stretch = before.stretch in
-    let all : c.loop-taken.taken ≡ c.args.steps = omega (arith, c.loop-taken-test.false, c.loop-taken.auto.taken-end) in
+    let all : c.loop-taken.taken ≡ c.args.steps = omega (arith, c.loop-taken-test.false, before.few) in
     (c.loop-taken.taken, stretch.0, record { leads = subst (λ n. Stretch c.args.self.now.code n c.loop-taken.taken c.args.self.now.standing c.loop-taken.self.standing stretch.0) all stretch.2 }, before.steps)

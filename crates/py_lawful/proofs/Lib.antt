@@ -1,0 +1,13 @@
+mod Exceptions
+mod Expressions
+mod Heaps
+mod Modules
+mod Names
+mod Operations
+mod Passing
+mod Right
+mod Runs
+mod Statements
+mod Table
+mod Targets
+mod Worlds

@@ -1,0 +1,4 @@
+pub mod Heaps
+pub mod Rules
+pub mod Constructs
+pub mod Laws

@@ -1,0 +1,11 @@
+pub mod Built
+pub mod Names
+pub mod Taken
+pub mod Expressions
+pub mod Loops
+pub mod Module
+pub mod Quiet
+pub mod Assignments
+pub mod Choices
+pub mod Statements
+pub mod Scripts

@@ -1,0 +1,5 @@
+print(True & False)
+print(True | False)
+print(True ^ True)
+print(True & 3)
+print(True << 4)

@@ -1,0 +1,6 @@
+print(True + True)
+print(True * 7)
+print(-True)
+print(~False)
+print(5 - True)
+print(2 ** True)

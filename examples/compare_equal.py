@@ -1,0 +1,5 @@
+print(1 == 1)
+print(1 == 2)
+print(None == None)
+print(None == 0)
+print(1 == True)

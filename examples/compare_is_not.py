@@ -1,0 +1,3 @@
+x = None
+print(x is not None)
+print(True is not False)

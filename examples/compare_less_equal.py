@@ -1,0 +1,3 @@
+print(1 <= 2)
+print(2 <= 2)
+print(3 <= 2)

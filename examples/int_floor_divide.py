@@ -1,0 +1,5 @@
+print(7 // 2)
+print(-7 // 2)
+print(7 // -2)
+print(-7 // -2)
+print(0 // 5)

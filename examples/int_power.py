@@ -1,0 +1,6 @@
+print(2 ** 10)
+print((-3) ** 3)
+print(-3 ** 2)
+print(0 ** 0)
+print(2 ** 3 ** 2)
+print(2 ** 126)

@@ -1,0 +1,5 @@
+print(1 << 0)
+print(5 << 3)
+print(-5 << 3)
+print(1 << 126)
+print(0 << 1000)

@@ -1,0 +1,5 @@
+# a comment
+
+x = 1; y = 2;  # two statements
+	
+print(x + y)   # three

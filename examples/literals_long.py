@@ -1,0 +1,4 @@
+print("""first
+second
+  third""")
+print('''it's "quoted"''')

@@ -1,0 +1,3 @@
+print("é ß 漢字 😀")
+grüße = "Grüße"
+print(grüße)

@@ -1,0 +1,8 @@
+print(not True)
+print(not 0)
+print(not 7)
+print(not "")
+print(not "x")
+print(not None)
+print(not not 3)
+print(not print)

@@ -1,0 +1,8 @@
+print(0x1f)
+print(0XFF)
+print(0o17)
+print(0b101)
+print(1_000_000)
+print(0x_dead_beef)
+print(00)
+print(170141183460469231731687303715884105727)

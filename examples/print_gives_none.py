@@ -1,0 +1,3 @@
+x = print("inner")
+print(x)
+print(print("nested"))

@@ -1,0 +1,3 @@
+print("before")
+print = 3
+print("after")

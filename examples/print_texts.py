@@ -1,0 +1,4 @@
+print("a text")
+print('another')
+print("")
+print("two" " joined " 'texts')

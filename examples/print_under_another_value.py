@@ -1,0 +1,3 @@
+p = print
+print(p == print)
+print(p is None)

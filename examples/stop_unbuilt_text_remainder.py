@@ -1,0 +1,2 @@
+print("so far")
+print("a" % 1)

@@ -1,0 +1,2 @@
+print("ab" + "cd")
+print("" + "x" + "")

@@ -1,0 +1,5 @@
+print("ab" * 3)
+print(3 * "ab")
+print("ab" * 0)
+print("ab" * -1 + "!")
+print("ab" * True)

@@ -1,0 +1,6 @@
+print("a" < "b")
+print("a" < "aa")
+print("Z" < "a")
+print("abc" >= "abd")
+print("é" > "z")
+print("" <= "")

@@ -1,0 +1,6 @@
+n = 1
+row = ""
+while n <= 5:
+    row += "*"
+    print(" " * (5 - n) + row)
+    n += 1

@@ -1,0 +1,3 @@
+x = 1
+x = print(x) + 1
+print("never")

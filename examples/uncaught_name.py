@@ -1,0 +1,3 @@
+print("before")
+print(later)
+later = 1

@@ -1,0 +1,2 @@
+print = "a text"
+print(1)

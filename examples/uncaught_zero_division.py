@@ -1,0 +1,3 @@
+print("before")
+x = 7 // 0
+print("after")

@@ -1,0 +1,4 @@
+n = 0
+while n < 5:
+    print(n)
+    n += 1
