@@ -10,3 +10,4 @@ mod Sinks
 mod Walks
 mod Stretches
 mod Taking
+mod Places

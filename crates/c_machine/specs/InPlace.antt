@@ -12,6 +12,9 @@ use Rattle.op_rules.specs.declared.world.World.{World}
 use Rattle.op_rules.specs.NameRows.{Answer, with_binding}
 use Rattle.c_meaning.specs.declared.code.Code.{Code}
 use Rattle.c_meaning.specs.State.{State}
+use Rattle.c_meaning.specs.Step.{operates, values}
+use Rattle.c_meaning.specs.declared.program.Argument.{Argument}
+use Rattle.nu_calls.specs.Rules.{table_rules}
 use Rattle.c_machine.specs.declared.execution.Execution.{Execution}
 use Rattle.c_machine.specs.Standing.{Outside, state_of}
 
@@ -78,3 +81,7 @@ behind x h to v = record {
 -- it goes on, in any program and whatever is outside
 abbrev pub GoesOn : (Code → State → Stepped State) → Execution → Execution → Type 0
 GoesOn step x y = (c : Code) (w : Outside) → step c (state_of x w) ≡ More (state_of y w)
+
+-- the operation is taken, on whichever line it stands and wherever an exception of it leads
+abbrev pub Operated : Op → ℕ → List Argument → Execution → Execution → Type 0
+Operated o to arguments x y = (line : ℕ) (goal : Option ℕ) → GoesOn (λ c s. operates table_rules c s (record { to = to; line = line; goal = goal }) o (values x.registers arguments)) x y

@@ -5,6 +5,7 @@ pub mod Starting
 pub mod Standing
 pub mod Effects
 pub mod InPlace
+pub mod Places
 pub mod Walks
 pub mod Machines
 pub mod Calls

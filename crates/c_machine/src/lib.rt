@@ -4,11 +4,12 @@
 //! are proved to be those of the program. No operation asks a function or resumes a generator yet, so that only the
 //! functions of modules run. A run takes stretches of simple statements in place (`quick`), and every other by `step`. The
 //! definitions stand in specs/: `Machines` (what contracts see), `Calls` (what a call does), and below them `Standing`,
-//! `Walks`, `Effects`, `InPlace`, `Starting`, `Values` and `Simple`.
+//! `Walks`, `Effects`, `InPlace`, `Places`, `Starting`, `Values` and `Simple`.
 #![tactic(auto)]
 
 mod ending;
 mod execution;
+mod lookup;
 mod machine;
 mod operation;
 mod placing;

@@ -1,6 +1,6 @@
 //! Statements that are taken in place: operations without the table, and only where the run goes on.
 
-ghost use Rattle.std.specs.Prelude.{◌≡◌, ◌+◌, ◌<◌, ◌≤◌, ◌^◌, ◌∷◌, [], ℕ, Option, Some, None, IfSome, true, false, length, slice_get, slice_set, option_copied};
+ghost use Rattle.std.specs.Prelude.{◌≡◌, ◌+◌, ◌<◌, ◌≤◌, ◌^◌, ◌∷◌, [], ℕ, List, Option, OnSome, Some, None, IfSome, true, false, length, slice_get, slice_set, option_copied};
 ghost use Rattle.std.specs.Option.{option_or};
 ghost use Rattle.nu_value.specs.declared.value.Value.TheVariants as value;
 ghost use Rattle.nu_value.specs.Names.{value_at};
@@ -17,9 +17,11 @@ ghost use Rattle.c_machine.specs.Effects.{answered};
 ghost use Rattle.nu_run.specs.Steps.{More};
 ghost use Rattle.c_machine.specs.Standing.{Outside, state_of};
 ghost use Rattle.c_machine.specs.Walks.{Leads};
-ghost use Rattle.c_machine.specs.InPlace.{GoesOn, behind, bool_of, bound_in, given, int_of, is_quick, truth_of, with_heap};
+ghost use Rattle.c_machine.specs.Places.{Keeps, Right, StayIn, Stays, asked, looked_up, module_names};
+ghost use Rattle.c_machine.specs.InPlace.{GoesOn, Operated, behind, bool_of, bound_in, given, int_of, is_quick, truth_of, with_heap};
 
 use crate::execution::{Execution, held};
+use crate::lookup::{Hint, look_up};
 use c_meaning::{Argument, Code, Operand, Placed, Statement, Stored};
 use nu_text::RcStr;
 use nu_value::{Heap, Object, Slots, Value};
@@ -262,37 +264,25 @@ fn isnot_value(registers: &Slots, world: &World, arguments: &[Argument]) -> Opti
     }
 }
 
-// The value of a name in a space.
-#[inline]
-fn in_space<'a>(heap: &'a Heap, space: u64, name: &str) -> Option<&'a Value>
-    ensures { option_copied result ≡ value_at (names_of (slice_get heap.now space)) name.now }
-{
-    match heap.get(space) {
-        Some(Object::Space(names)) => names.get(name),
-        _ => None,
-    }
-}
-
-// The value of a name in the module, or else among the built-in names.
-#[inline]
-fn found<'a>(world: &'a World, name: &str) -> Option<&'a Value>
-    ensures { option_copied result ≡ option_or (value_at (names_of (slice_get world.now.heap world.now.module)) name.now) (value_at (names_of (slice_get world.now.heap world.now.builtins)) name.now) }
-{
-    match in_space(&world.heap, world.module, name) {
-        Some(value) => Some(value),
-        None => in_space(&world.heap, world.builtins, name),
-    }
-}
-
+// The value of a name, for the statement at this place.
 #[inline]
 #[tactic(auto, using(crate::proofs::InPlace::global_answered))]
-fn global_value(registers: &Slots, world: &World, arguments: &[Argument]) -> Option<Value>
-    ensures { IfSome result (λ v. answered world.now op.Global (meaning.values registers.now arguments.now) ≡ Some (given world.now.heap v)) }
+fn global_value(
+    registers: &Slots,
+    world: &World,
+    arguments: &[Argument],
+    at: u64,
+    hint: &mut Hint,
+) -> Option<Value>
+    requires small { at + 1 < 2 ^ 64 }
+    requires right { (name : List ℕ) → asked op.Global arguments.now ≡ Some name → Right (module_names world.now) name at hint.old }
+    ensures value { IfSome result (λ v. answered world.now op.Global (meaning.values registers.now arguments.now) ≡ Some (given world.now.heap v)) }
+    ensures hint { Keeps (module_names world.now) (asked op.Global arguments.now) at hint.old hint.new }
 {
     let [Argument::Name(name)] = arguments else {
         return None;
     };
-    match found(world, name.as_str()) {
+    match look_up(world, name.as_str(), at, hint) {
         Some(value) => copied(value),
         None => None,
     }
@@ -345,6 +335,7 @@ fn set_global(registers: &Slots, world: &mut World, arguments: &[Argument]) -> b
     ensures bound { result ≡ true → answered world.old op.SetGlobal (meaning.values registers.now arguments.now) ≡ Some (given world.new.heap value.None) }
     ensures world { world.new ≡ with_heap world.old world.new.heap }
     ensures same { result ≡ false → world.new ≡ world.old }
+    ensures stays { StayIn (module_names world.old) (module_names world.new) }
 {
     let [Argument::Name(name), Argument::Value(operand)] = arguments else {
         return false;
@@ -372,13 +363,16 @@ impl Execution {
 
     // The value of a name.
     #[inline(never)]
-    #[tactic(auto, using(crate::proofs::InPlace::operates_on))]
-    fn looks_up(&mut self, to: u64, arguments: &[Argument]) -> bool
-        requires { self.old.place + 1 < 2 ^ 64 }
-        ensures goes { result ≡ true → (line : ℕ) (goal : Option ℕ) → GoesOn (λ c s. meaning.operates table_rules c s (record { to = to; line = line; goal = goal }) op.Global (meaning.values self.old.registers arguments.now)) self.old self.new }
+    #[tactic(auto, using(crate::proofs::InPlace::operates_on, crate::proofs::Places::stays_behind))]
+    fn looks_up(&mut self, to: u64, arguments: &[Argument], hint: &mut Hint) -> bool
+        requires small { self.old.place + 1 < 2 ^ 64 }
+        requires right { (name : List ℕ) → asked op.Global arguments.now ≡ Some name → Right (module_names self.old.world) name self.old.place hint.old }
+        ensures hint { Keeps (module_names self.old.world) (asked op.Global arguments.now) self.old.place hint.old hint.new }
+        ensures goes { result ≡ true → Operated op.Global to arguments.now self.old self.new }
         ensures same { result ≡ false → self.new ≡ self.old }
+        ensures stays { Stays self.old self.new }
     {
-        match global_value(&self.registers, &self.world, arguments) {
+        match global_value(&self.registers, &self.world, arguments, self.place, hint) {
             Some(value) => {
                 self.advance(to, value);
                 true
@@ -389,11 +383,12 @@ impl Execution {
 
     // The truth value of what is no object.
     #[inline(never)]
-    #[tactic(auto, using(crate::proofs::InPlace::operates_on))]
+    #[tactic(auto, using(crate::proofs::InPlace::operates_on, crate::proofs::Places::stays_behind))]
     fn tests(&mut self, to: u64, arguments: &[Argument]) -> bool
         requires { self.old.place + 1 < 2 ^ 64 }
-        ensures goes { result ≡ true → (line : ℕ) (goal : Option ℕ) → GoesOn (λ c s. meaning.operates table_rules c s (record { to = to; line = line; goal = goal }) op.Truth (meaning.values self.old.registers arguments.now)) self.old self.new }
+        ensures goes { result ≡ true → Operated op.Truth to arguments.now self.old self.new }
         ensures same { result ≡ false → self.new ≡ self.old }
+        ensures stays { Stays self.old self.new }
     {
         match truth_value(&self.registers, &self.world, arguments) {
             Some(value) => {
@@ -406,11 +401,12 @@ impl Execution {
 
     // Another operation that changes no object.
     #[inline(never)]
-    #[tactic(auto, using(crate::proofs::InPlace::operates_on))]
+    #[tactic(auto, using(crate::proofs::InPlace::operates_on, crate::proofs::Places::stays_behind))]
     fn reads(&mut self, to: u64, op: Op, arguments: &[Argument]) -> bool
         requires { self.old.place + 1 < 2 ^ 64 }
-        ensures goes { result ≡ true → (line : ℕ) (goal : Option ℕ) → GoesOn (λ c s. meaning.operates table_rules c s (record { to = to; line = line; goal = goal }) op (meaning.values self.old.registers arguments.now)) self.old self.new }
+        ensures goes { result ≡ true → Operated op to arguments.now self.old self.new }
         ensures same { result ≡ false → self.new ≡ self.old }
+        ensures stays { Stays self.old self.new }
     {
         match value_of(&self.registers, &self.world, op, arguments) {
             Some(value) => {
@@ -423,11 +419,12 @@ impl Execution {
 
     // A name of the module gets a value.
     #[inline]
-    #[tactic(auto, using(crate::proofs::InPlace::operates_on))]
+    #[tactic(auto, using(crate::proofs::InPlace::operates_on, crate::proofs::Places::stays_bound))]
     fn binds(&mut self, to: u64, arguments: &[Argument]) -> bool
         requires { self.old.place + 1 < 2 ^ 64 }
-        ensures goes { result ≡ true → (line : ℕ) (goal : Option ℕ) → GoesOn (λ c s. meaning.operates table_rules c s (record { to = to; line = line; goal = goal }) op.SetGlobal (meaning.values self.old.registers arguments.now)) self.old self.new }
+        ensures goes { result ≡ true → Operated op.SetGlobal to arguments.now self.old self.new }
         ensures same { result ≡ false → self.new ≡ self.old }
+        ensures stays { Stays self.old self.new }
     {
         if set_global(&self.registers, &mut self.world, arguments) {
             self.advance(to, Value::None);
@@ -437,26 +434,100 @@ impl Execution {
         }
     }
 
+    // An operation on two integers.
     #[inline]
-    fn operates(&mut self, to: u64, op: Op, arguments: &[Argument]) -> bool
+    #[tactic(auto, using(crate::proofs::InPlace::operates_on, crate::proofs::Places::stays_behind))]
+    fn computes(&mut self, to: u64, op: Op, arguments: &[Argument]) -> bool
         requires { self.old.place + 1 < 2 ^ 64 }
-        ensures goes { result ≡ true → (line : ℕ) (goal : Option ℕ) → GoesOn (λ c s. meaning.operates table_rules c s (record { to = to; line = line; goal = goal }) op (meaning.values self.old.registers arguments.now)) self.old self.new }
+        ensures goes { result ≡ true → Operated op to arguments.now self.old self.new }
         ensures same { result ≡ false → self.new ≡ self.old }
+        ensures stays { Stays self.old self.new }
     {
-        match op {
-            Op::SetGlobal => self.binds(to, arguments),
-            Op::Global => self.looks_up(to, arguments),
-            Op::Truth => self.tests(to, arguments),
-            _ => self.reads(to, op, arguments),
+        match numbers_value(&self.registers, &self.world, op, arguments) {
+            Some(value) => {
+                self.advance(to, value);
+                true
+            }
+            None => false,
         }
     }
 
     #[inline(never)]
-    #[tactic(auto, using(crate::proofs::InPlace::stores_on))]
+    fn adds(&mut self, to: u64, arguments: &[Argument]) -> bool
+        requires { self.old.place + 1 < 2 ^ 64 }
+        ensures goes { result ≡ true → Operated op.Add to arguments.now self.old self.new }
+        ensures same { result ≡ false → self.new ≡ self.old }
+        ensures stays { Stays self.old self.new }
+    {
+        self.computes(to, Op::Add, arguments)
+    }
+
+    #[inline(never)]
+    fn adds_on(&mut self, to: u64, arguments: &[Argument]) -> bool
+        requires { self.old.place + 1 < 2 ^ 64 }
+        ensures goes { result ≡ true → Operated op.IAdd to arguments.now self.old self.new }
+        ensures same { result ≡ false → self.new ≡ self.old }
+        ensures stays { Stays self.old self.new }
+    {
+        self.computes(to, Op::IAdd, arguments)
+    }
+
+    #[inline(never)]
+    fn subtracts(&mut self, to: u64, arguments: &[Argument]) -> bool
+        requires { self.old.place + 1 < 2 ^ 64 }
+        ensures goes { result ≡ true → Operated op.Sub to arguments.now self.old self.new }
+        ensures same { result ≡ false → self.new ≡ self.old }
+        ensures stays { Stays self.old self.new }
+    {
+        self.computes(to, Op::Sub, arguments)
+    }
+
+    #[inline(never)]
+    fn compares(&mut self, to: u64, op: Op, arguments: &[Argument]) -> bool
+        requires { self.old.place + 1 < 2 ^ 64 }
+        ensures goes { result ≡ true → Operated op to arguments.now self.old self.new }
+        ensures same { result ≡ false → self.new ≡ self.old }
+        ensures stays { Stays self.old self.new }
+    {
+        match op {
+            Op::Lt => self.computes(to, Op::Lt, arguments),
+            Op::Le => self.computes(to, Op::Le, arguments),
+            Op::Gt => self.computes(to, Op::Gt, arguments),
+            Op::Ge => self.computes(to, Op::Ge, arguments),
+            Op::Eq => self.computes(to, Op::Eq, arguments),
+            Op::Ne => self.computes(to, Op::Ne, arguments),
+            _ => self.reads(to, op, arguments),
+        }
+    }
+
+    #[inline]
+    #[tactic(auto, using(crate::proofs::Places::keeps_same))]
+    fn operates(&mut self, to: u64, op: Op, arguments: &[Argument], hint: &mut Hint) -> bool
+        requires small { self.old.place + 1 < 2 ^ 64 }
+        requires right { (name : List ℕ) → asked op arguments.now ≡ Some name → Right (module_names self.old.world) name self.old.place hint.old }
+        ensures goes { result ≡ true → Operated op to arguments.now self.old self.new }
+        ensures same { result ≡ false → self.new ≡ self.old }
+        ensures stays { Stays self.old self.new }
+        ensures hint { Keeps (module_names self.old.world) (asked op arguments.now) self.old.place hint.old hint.new }
+    {
+        match op {
+            Op::Global => self.looks_up(to, arguments, hint),
+            Op::SetGlobal => self.binds(to, arguments),
+            Op::Truth => self.tests(to, arguments),
+            Op::Add => self.adds(to, arguments),
+            Op::IAdd => self.adds_on(to, arguments),
+            Op::Sub => self.subtracts(to, arguments),
+            _ => self.compares(to, op, arguments),
+        }
+    }
+
+    #[inline(never)]
+    #[tactic(auto, using(crate::proofs::InPlace::stores_on, crate::proofs::Places::stays_behind))]
     fn copies(&mut self, to: u64, operand: &Operand) -> bool
         requires { self.old.place + 1 < 2 ^ 64 }
         ensures goes { result ≡ true → GoesOn (λ c s. meaning.stores s to (meaning.held self.old.registers operand.now)) self.old self.new }
         ensures same { result ≡ false → self.new ≡ self.old }
+        ensures stays { Stays self.old self.new }
     {
         match held_by(&self.registers, operand) {
             Some(value) => {
@@ -468,9 +539,11 @@ impl Execution {
     }
 
     #[inline]
+    #[tactic(auto, using(crate::proofs::Places::stays_alike))]
     fn leaps(&mut self, goal: Option<u64>) -> bool
         ensures goes { result ≡ true → GoesOn (λ c s. states.jumps s goal) self.old self.new }
         ensures same { result ≡ false → self.new ≡ self.old }
+        ensures stays { Stays self.old self.new }
     {
         match goal {
             Some(place) => {
@@ -482,11 +555,12 @@ impl Execution {
     }
 
     #[inline]
-    #[tactic(auto, using(crate::proofs::InPlace::branches_false))]
+    #[tactic(auto, using(crate::proofs::InPlace::branches_false, crate::proofs::Places::stays_alike))]
     fn chooses(&mut self, goal: Option<u64>, test: &Operand) -> bool
         requires { self.old.place + 1 < 2 ^ 64 }
         ensures goes { result ≡ true → GoesOn (λ c s. meaning.branches s goal (meaning.held self.old.registers test.now)) self.old self.new }
         ensures same { result ≡ false → self.new ≡ self.old }
+        ensures stays { Stays self.old self.new }
     {
         match bool_at(&self.registers, test) {
             Some(true) => self.leaps(goal),
@@ -500,15 +574,19 @@ impl Execution {
 
     // Takes a statement; where that isn't done in place, nothing has changed.
     #[inline]
-    fn takes(&mut self, placed: &Placed) -> bool
-        requires { self.old.place + 1 < 2 ^ 64 }
+    #[tactic(auto, using(crate::proofs::Places::keeps_same, crate::proofs::Places::stays_alike))]
+    fn takes(&mut self, placed: &Placed, hint: &mut Hint) -> bool
+        requires small { self.old.place + 1 < 2 ^ 64 }
+        requires right { (name : List ℕ) → looked_up placed.now.statement ≡ Some name → Right (module_names self.old.world) name self.old.place hint.old }
         ensures goes { result ≡ true → GoesOn (λ c s. meaning.placed_step table_rules c s (Some placed.now)) self.old self.new }
         ensures same { result ≡ false → self.new ≡ self.old }
+        ensures stays { Stays self.old self.new }
+        ensures hint { Keeps (module_names self.old.world) (looked_up placed.now.statement) self.old.place hint.old hint.new }
     {
         match &placed.statement {
             Statement::Store { to, what } => match what {
                 Stored::Operation { op, arguments, .. } => {
-                    self.operates(*to, *op, arguments.as_slice())
+                    self.operates(*to, *op, arguments.as_slice(), hint)
                 }
                 Stored::Value(operand) => self.copies(*to, operand),
                 _ => false,
@@ -519,21 +597,48 @@ impl Execution {
         }
     }
 
+    // The statements of the function that runs.
+    #[inline]
+    fn statements<'a>(&self, code: &'a Code) -> &'a [Placed]
+        ensures { (n : ℕ) → slice_get result.now n ≡ meaning.placed_in (slice_get code.now.bodies self.now.function) n }
+    {
+        match code.bodies.get(self.function as usize) {
+            Some(body) => body.statements.as_slice(),
+            None => &[],
+        }
+    }
+
     /// Takes statements in place, as far as that goes, at most so many, and answers how many. None of them prints.
     pub(crate) fn hurry(&mut self, code: &Code, most: u64) -> u64
         ensures few { result ≤ most }
         ensures leads { (w : Outside) → Leads (meaning.step table_rules code.now) states.printed_in result result (More (state_of self.old w)) (More (state_of self.new w)) }
     {
+        let statements = self.statements(code);
+        let mut hints = [Hint { next: 0, place: 0 }; 32];
         let mut taken = 0;
         while taken < most {
-            let Some(placed) = self.statement(code) else {
+            let at = self.place;
+            let Some(placed) = statement_at(statements, at) else {
                 break;
             };
-            if !self.takes(placed) {
+            if !self.takes(placed, &mut hints[(at % 32) as usize]) {
                 break;
             }
             taken += 1;
         }
         taken
+    }
+}
+
+// The statement at a place, if there is one.
+#[inline]
+fn statement_at(statements: &[Placed], place: u64) -> Option<&Placed>
+    ensures value { option_copied result ≡ slice_get statements.now place }
+    ensures small { OnSome result (place + 1 < 2 ^ 64) }
+{
+    if place < statements.len() as u64 {
+        statements.get(place as usize)
+    } else {
+        None
     }
 }

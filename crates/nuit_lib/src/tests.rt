@@ -424,13 +424,55 @@ fn builds_and_runs_or_says_why_not(rt: HostRuntime) -> Result<(), Fail> {
     Ok(())
 }
 
+/// Scripts, and what the run of what is built of each comes to: the status, the output and the message.
+static SCRIPTS: [(&[u8], Status, &[u8], &[u8]); 6] = [
+    (
+        b"print(0x_1F); print( 7 # c\n)\n",
+        Status::Done,
+        b"31\n7\n",
+        b"",
+    ),
+    (
+        b"print(170141183460469231731687303715884105727 + 1)\n",
+        Status::Stopped,
+        b"",
+        b"nuit: stop: Int\n",
+    ),
+    (
+        b"i = 0\nwhile i < 3:\n    i += 1\n    if i == 2:\n        continue\n    print(i)\nelse:\n    print(\"else\")\nwhile True:\n    break\nelse:\n    print(\"no\")\n",
+        Status::Done,
+        b"1\n3\nelse\n",
+        b"",
+    ),
+    (
+        b"print(\"a\" * 16777217)\n",
+        Status::Stopped,
+        b"",
+        b"nuit: stop: Size\n",
+    ),
+    (
+        b"print(2 ** -1)\n",
+        Status::Stopped,
+        b"",
+        b"nuit: stop: Float\n",
+    ),
+    (
+        b"1 // 0\n",
+        Status::Uncaught,
+        b"",
+        b"Traceback (most recent call last):\n  File \"t.py\", line 1, in <module>\nZeroDivisionError\n",
+    ),
+];
+
 #[test]
 fn runs_what_it_builds(rt: HostRuntime) -> Result<(), Fail> {
     let alloc = rt.alloc();
-    let script = b"print(0x_1F); print( 7 # c\n)\n".as_slice();
-    let (_built, text, _silent) = called(alloc, BUILD, script, &NOTHING)?;
-    let wanted = (Status::Done, b"31\n7\n".as_slice(), b"".as_slice());
-    assert!(rt; gives(alloc, RUN, text.bytes(), &NOTHING, wanted)?);
+    for (script, status, out, message) in SCRIPTS {
+        let (built, text, silent) = called(alloc, BUILD, script, &NOTHING)?;
+        assert_eq!(rt; built, Status::Done);
+        assert_eq!(rt; silent.bytes(), b"".as_slice());
+        assert!(rt; gives(alloc, RUN, text.bytes(), &NOTHING, (status, out, message))?);
+    }
     Ok(())
 }
 

@@ -430,7 +430,7 @@ bound c line (Some name) = Some (record { line = line; home = home_in c name })
 bound c line None = None
 
 abbrev pub clause_made : Context → Handler Piece → Option Expr → Making syntax.Handlers → Making syntax.Handlers
-clause_made c h None others = made syntax.Bare (block c h.body)
+clause_made c h None others = and_then (block c h.body) (λ body. made (λ o. syntax.Bare body) others)
 clause_made c h (Some x) others =
     and_then ((expr x).value c) (λ v. and_then (block c h.body) (λ body. made (syntax.Handler (line_of x) v (bound c h.line h.name) body) others))
 
@@ -438,9 +438,9 @@ abbrev pub handlers : Context → List (Handler Piece) → Making syntax.Handler
 handlers c [] = pure syntax.NoHandler
 handlers c (h ∷ hs) = clause_made c h h.class (handlers c hs)
 
--- the body of a `try`, with its clauses, if there are any
+-- the body of a `try`, with its clauses, if there are any. An `else` stands behind clauses alone; without them it would follow the body
 abbrev pub guarded : Context → List Piece → List (Handler Piece) → List Piece → Making syntax.Block
-guarded c body [] other = block c body
+guarded c body [] other = block c (body ++ other)
 guarded c body (h ∷ hs) other =
     and_then (block c body) (λ b. and_then (handlers c (h ∷ hs)) (λ k. made (λ o. alone (syntax.Try b k o)) (block c other)))
 

@@ -102,7 +102,7 @@ mutual
   pub data Statement : Type 0 where
     Evaluate : (x : Expression) → Statement
     Assign : (targets : Targets) (x : Expression) → Statement
-    -- the target is a name, an attribute or an index
+    -- with the line of the statement, which the operation has. The target is a name, an attribute or an index, with its own
     Augment : (line : ℕ) (op : Op) (target : Target) (x : Expression) → Statement
     Delete : (target : Target) → Statement
     Pass : Statement
@@ -119,7 +119,7 @@ mutual
     For : (line : ℕ) (target : Target) (over : Expression) (body other : Block) → Statement
     Try : (body : Block) (handlers : Handlers) (other : Block) → Statement
     Finally : (body last : Block) → Statement
-    -- one item, with its target, if there is one
+    -- one item, with the line of its manager, and its target, if there is one
     With : (line : ℕ) (manager : Expression) (target : Targets) (body : Block) → Statement
     Define : (line : ℕ) (decorators : List Decorator) (function : Expression) (home : Home) → Statement
     Class : (line : ℕ) (decorators : List Decorator) (name : List ℕ) (base : Expression) (code : ℕ) (cells : List CellPlace) (home : Home) → Statement
@@ -131,6 +131,7 @@ mutual
   pub data Handlers : Type 0 where
     NoHandler : Handlers
     Bare : (body : Block) → Handlers
+    -- with the line of the class
     Handler : (line : ℕ) (class : Expression) (name : Option Caught) (body : Block) (handlers : Handlers) → Handlers
 
 -- what a comprehension does in its first loop (reference, section 6.2.4)
@@ -141,8 +142,8 @@ pub data Turns : Type 0 where
   Ranging : (target : Target) (over : Expression) (turns : Turns) → Turns
   Filter : (test : Expression) (turns : Turns) → Turns
 
--- the body of a code: a block; the expression of a lambda; or a comprehension, which collects into what an operation makes, if
--- anything, over the iterator that it is handed
+-- the body of a code: a block; the expression of a lambda; or a comprehension, with its line, which collects into what an operation makes,
+-- if anything, over the iterator that it is handed
 pub data Body : Type 0 where
   Statements : (block : Block) → Body
   Value' : (x : Expression) → Body

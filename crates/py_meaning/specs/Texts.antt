@@ -3,6 +3,7 @@
 use Rattle.std.specs.Prelude.{ℕ, List, [], ◌∷◌, ◌++◌, map, Option, Some, None, codes, slice_get}
 use Rattle.nu_value.specs.declared.value.Value.{Value}
 use Rattle.nu_value.specs.declared.value.Value.TheVariants as value
+use Rattle.py_ast.specs.declared.scoped.NameHome.{NameHome}
 use Rattle.py_meaning.specs.Syntax as syntax
 
 abbrev pub Texts : Type 0
@@ -139,6 +140,6 @@ module _ (inner : ℕ → Option syntax.Code) where
   body (syntax.Value' x) = expression x
   body (syntax.Collect line into t turns) = target t ++ collected turns
 
--- the texts of the scope of a code
-abbrev pub texts : List syntax.Code → syntax.Code → Texts
-texts cs code = written ++ map (λ p. p.1) code.header.params ++ body (λ n. slice_get cs n) code.body
+-- the texts of the scope of a code, in which these names stand; some of them may only be declared
+abbrev pub texts : List syntax.Code → List NameHome → syntax.Code → Texts
+texts cs names code = written ++ map (λ n. n.name) names ++ map (λ p. p.1) code.header.params ++ body (λ n. slice_get cs n) code.body

@@ -1,0 +1,3 @@
+pub mod Redirect
+pub mod Shown
+pub mod Laws

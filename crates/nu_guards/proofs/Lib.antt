@@ -1,0 +1,9 @@
+pub mod Steps
+pub mod Again
+pub mod Attempts
+pub mod Turned
+pub mod Loops
+pub mod Tries
+pub mod Kept
+pub mod Finish
+pub mod With

@@ -1,0 +1,5 @@
+pub mod Raises
+pub mod Loops
+pub mod Tries
+pub mod Finish
+pub mod Laws

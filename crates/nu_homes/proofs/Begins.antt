@@ -1,0 +1,116 @@
+-- The frames with which a code and its nodes begin.
+use Rattle.std.proofs.Common.{◌≡◌, ⊎_elim, ℕ, zero, suc, ◌+◌, ◌-◌, ◌<◌, ◌≤◌, Bool, true, false, ◌&&◌, nat_le, if◌then◌else◌, length, take, replicate, List, [], ◌∷◌, ◌++◌, Option, Some, None, refl, sym, ap, ◌∙◌, subst, arith, length-append, length-take-le}
+use Rattle.std.specs.Prelude.{slice_get}
+use Rattle.std.proofs.lemmas.Bool.{leb-true}
+use Rattle.std.proofs.lemmas.List.{length-replicate}
+use Rattle.nu_value.specs.declared.value.Value.{Value}
+use Rattle.nu_value.specs.declared.value.Value.TheVariants as value
+use Rattle.node_tree.specs.declared.script.NodeCode.{NodeCode}
+use Rattle.node_tree.specs.Nodes as nodes
+use Rattle.node_tree.specs.Run as node_run
+use Rattle.py_meaning.specs.Syntax as syntax
+use Rattle.py_meaning.specs.Frames as python
+use Rattle.py_meaning.specs.Bodies as bodies
+use Rattle.nu_carries.specs.Frames.{Homes, HaveRoom, local_at, free_at, begun, FramesAs}
+use Rattle.nu_carries.specs.Carries.{Setting, source, target, BegunAs}
+use Rattle.nu_carries.proofs.Facts.{local_cases}
+use Rattle.nu_homes.specs.Begun.{BeginAs, HaveHomes}
+use Rattle.nu_homes.proofs.Stages.{at_before}
+
+-- Lists
+
+get_at : (xs : List Value) (i : ℕ) → i < length xs → slice_get xs i ≡ Some (python.at xs i)
+get_at [] i l = absurd (omega arith)
+get_at (x ∷ xs) zero l = refl
+get_at (x ∷ xs) (suc i) l = get_at xs i (omega arith)
+
+get_front : (xs ys : List Value) (i : ℕ) → i < length xs → slice_get (xs ++ ys) i ≡ slice_get xs i
+get_front [] ys i l = absurd (omega arith)
+get_front (x ∷ xs) ys zero l = refl
+get_front (x ∷ xs) ys (suc i) l = get_front xs ys i (omega arith)
+
+get_behind : (xs ys : List Value) (n i : ℕ) → n ≡ length xs + i → slice_get (xs ++ ys) n ≡ slice_get ys i
+get_behind [] ys n i e = let e₁ : n ≡ i = omega arith in ap (λ m. slice_get ys m) e₁
+get_behind (x ∷ xs) ys zero i e = absurd (omega arith)
+get_behind (x ∷ xs) ys (suc n) i e = get_behind xs ys n i (omega arith)
+
+at_unset : (n i : ℕ) → python.at (replicate n value.Unset) i ≡ value.Unset
+at_unset zero i = refl
+at_unset (suc n) zero = refl
+at_unset (suc n) (suc i) = at_unset n i
+
+at_rest : (xs : List Value) (n i : ℕ) → length xs ≤ i → python.at (xs ++ replicate n value.Unset) i ≡ value.Unset
+at_rest [] n i l = at_unset n i
+at_rest (x ∷ xs) n zero l = absurd (omega arith)
+at_rest (x ∷ xs) n (suc i) l = at_rest xs n i (omega arith)
+
+module _ (code : ℕ) (given cells : List Value) where
+  abbrev source_frame : ℕ → ℕ → ℕ → python.Frame
+  source_frame params locals frees = record { code = code; locals = take params given ++ replicate (locals - params) value.Unset; owns = []; frees = take frees cells; carried = value.None }
+
+  abbrev target_frame : ℕ → ℕ → nodes.Frame
+  target_frame params frees = record { code = code; given = given; cells = cells; temps = slice_get (take params given ++ take frees cells) }
+
+  frames_alike : (h : Homes) → HaveRoom h → h.params ≤ length given → h.frees ≤ length cells → FramesAs (begun h) [] (source_frame h.params h.locals h.frees) (target_frame h.params h.frees)
+  frames_alike h room l₁ l₂ =
+      let r = room.params in
+      let n : length (take h.params given) ≡ h.params = length-take-le h.params given l₁ in
+      let m : length (take h.frees cells) ≡ h.frees = length-take-le h.frees cells l₂ in
+      let k : length (replicate (h.locals - h.params) value.Unset) ≡ h.locals - h.params = length-replicate (h.locals - h.params) value.Unset in
+      let both : length (take h.params given ++ replicate (h.locals - h.params) value.Unset) ≡ length (take h.params given) + length (replicate (h.locals - h.params) value.Unset) = length-append (take h.params given) (replicate (h.locals - h.params) value.Unset) in
+      record {
+        room = record { params = room.params; filled = room.params; made = omega arith };
+        code = refl;
+        count = omega arith;
+        made = refl;
+        locals = λ place l. let home : local_at h place ≡ place = param_home place l in
+            ap (λ i. slice_get (take h.params given ++ take h.frees cells) i) home
+            ∙ get_front (take h.params given) (take h.frees cells) place (omega arith)
+            ∙ get_at (take h.params given) place (omega arith)
+            ∙ sym (ap (λ u. Some u) (at_before (take h.params given) (replicate (h.locals - h.params) value.Unset) place (omega arith)));
+        owns = λ place l. absurd (omega (arith, l));
+        frees = λ place l. get_behind (take h.params given) (take h.frees cells) (free_at h place) place (omega arith) ∙ get_at (take h.frees cells) place (omega arith);
+        facts = tt;
+      }
+    where
+      param_home : (place : ℕ) → place < h.params → local_at h place ≡ place
+      param_home place l = ⊎_elim
+          (λ (q : (place < h.params) × (local_at h place ≡ place)). q.1)
+          (λ (q : (h.params ≤ place) × (local_at h place ≡ h.frees + h.owns + place)). let a = q.0 in absurd (omega arith))
+          (local_cases h place)
+
+  begin_alike : (h : Homes) → HaveRoom h → (a b : Bool) → nat_le h.params (length given) ≡ a → nat_le h.frees (length cells) ≡ b → BeginAs h (if a && b then Some (source_frame h.params h.locals h.frees) else None) (if a && b then Some (target_frame h.params h.frees) else None)
+  begin_alike h room true true ea eb =
+      let n : length (take h.params given) ≡ h.params = length-take-le h.params given (leb-true h.params (length given) ea) in (
+        frames_alike h room (leb-true h.params (length given) ea) (leb-true h.frees (length cells) eb),
+        λ place l. at_rest (take h.params given) (h.locals - h.params) place (omega arith),
+      )
+  begin_alike h room true false ea eb = tt
+  begin_alike h room false true ea eb = tt
+  begin_alike h room false false ea eb = tt
+
+  abbrev source_begun : ℕ → ℕ → ℕ → Option python.Frame
+  source_begun params locals frees = if nat_le params (length given) && nat_le frees (length cells) then Some (source_frame params locals frees) else None
+
+  abbrev target_begun : ℕ → ℕ → Option nodes.Frame
+  target_begun params frees = if nat_le params (length given) && nat_le frees (length cells) then Some (target_frame params frees) else None
+
+  codes_alike : (h : Homes) (c : syntax.Code) (k : NodeCode) → HaveRoom h → HaveHomes h c k → BeginAs h (bodies.begun_frame code given cells (Some c)) (node_run.begun_frame code given cells (Some k))
+  codes_alike h c k room homes =
+      subst (λ n. BeginAs h (source_begun n c.locals c.frees) (target_begun (length k.params) k.free)) (sym homes.params)
+      (subst (λ n. BeginAs h (source_begun h.params n c.frees) (target_begun (length k.params) k.free)) (sym homes.locals)
+      (subst (λ n. BeginAs h (source_begun h.params h.locals n) (target_begun (length k.params) k.free)) (sym homes.frees)
+      (subst (λ n. BeginAs h (source_begun h.params h.locals h.frees) (target_begun n k.free)) (sym homes.given)
+      (subst (λ n. BeginAs h (source_begun h.params h.locals h.frees) (target_begun h.params n)) (sym homes.cells)
+      (begin_alike h room (nat_le h.params (length given)) (nat_le h.frees (length cells)) refl refl)))))
+
+pub begins_alike : (z : Setting) (code : ℕ) (c : syntax.Code) (k : NodeCode) → slice_get z.codes code ≡ Some c → slice_get z.script.codes code ≡ Some k → HaveRoom (z.homes code) → HaveHomes (z.homes code) c k → (given cells : List Value) → BeginAs (z.homes code) ((source z).frame code given cells) ((target z).frame code given cells)
+begins_alike z code c k ec ek room homes given cells =
+    subst (λ o. BeginAs (z.homes code) (bodies.begun_frame code given cells o) ((target z).frame code given cells)) (sym ec)
+    (subst (λ o. BeginAs (z.homes code) (bodies.begun_frame code given cells (Some c)) (node_run.begun_frame code given cells o)) (sym ek)
+    (codes_alike code given cells (z.homes code) c k room homes))
+
+pub begin_frames : (h : Homes) (f : Option python.Frame) (g : Option nodes.Frame) → BeginAs h f g → BegunAs h f g
+begin_frames h None None x = tt
+begin_frames h (Some f) (Some g) x = x.0
+begin_frames h f g x = absurd x

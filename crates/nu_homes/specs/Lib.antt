@@ -1,0 +1,4 @@
+pub mod Names
+pub mod Begun
+pub mod Functions
+pub mod Laws

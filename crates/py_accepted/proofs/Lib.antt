@@ -1,0 +1,13 @@
+mod Lists
+mod Names
+mod Homes
+mod Doing
+mod Places
+mod Inner
+mod Parts
+mod Functions
+mod Expressions
+mod Statements
+mod Scripts
+mod Texts
+mod Runs

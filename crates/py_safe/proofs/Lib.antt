@@ -1,0 +1,30 @@
+mod Agreement
+mod Begun
+mod Bodies
+mod Clauses
+pub mod Codes
+mod Collections
+mod Comprehensions
+mod Definitions
+mod Delegates
+mod Exceptions
+mod Expressions
+mod Frames
+mod Functions
+mod Growth
+mod Handing
+mod Modules
+mod Names
+mod Operations
+mod Passing
+mod Plain
+mod Raised
+mod Reports
+pub mod Right
+pub mod Rows
+mod Runs
+mod Scenes
+mod Statements
+mod Table
+mod Targets
+mod Worlds
