@@ -394,6 +394,13 @@ module _ (rules : Rules) (script : CutScript) (declared : (k : ℕ) (f : CutFunc
   report_begins_match running others head number e world kept out (Starts g called given cells) = λ d. absurd d
   report_begins_match running others head number e world kept out (Wakes g how closing) = λ d. absurd d
 
+  function_match : (running : Activation) (head : List ℕ) (number e : ℕ) (world : Scene) (kept : List (Option Kept)) (out : List ℕ) (f : ℕ) (x : Option Object) → Match (cut.asks_function m head number e (cut_around world) out f x) (c.asks_function rules code (around_state running [] world kept (Some (report_of head number e)) out) (report_of head number e) f x)
+  function_match running head number e world kept out f None = λ d. refl
+  function_match running head number e world kept out f (Some (object.Function called defaults keywords cells)) =
+      let b = begun_by script.scripts (scene (cut_around world)) (rules.bind world.world f (value.Obj e ∷ []) after.Plain) in
+      report_begins_match running [] head number e b.scene kept out b.begun
+  function_match running head number e world kept out f (Some other) = λ d. refl
+
   asks_match : (running : Activation) (head : List ℕ) (number e : ℕ) (world : Scene) (kept : List (Option Kept)) (out : List ℕ) (f : Option Value) → Match (cut.reports m head number e (cut_around world) out f) (c.asks_report rules code (around_state running [] world kept (Some (report_of head number e)) out) (report_of head number e) f)
   asks_match running head number e world kept out None = λ d. refl
   asks_match running head number e world kept out (Some value.Unset) = λ d. refl
@@ -401,9 +408,7 @@ module _ (rules : Rules) (script : CutScript) (declared : (k : ℕ) (f : CutFunc
   asks_match running head number e world kept out (Some (value.Bool b)) = λ d. refl
   asks_match running head number e world kept out (Some (value.Int z)) = λ d. refl
   asks_match running head number e world kept out (Some (value.Str text)) = λ d. refl
-  asks_match running head number e world kept out (Some (value.Obj f)) =
-      let b = begun_by script.scripts (scene (cut_around world)) (rules.bind world.world f (value.Obj e ∷ []) after.Plain) in
-      report_begins_match running [] head number e b.scene kept out b.begun
+  asks_match running head number e world kept out (Some (value.Obj f)) = function_match running head number e world kept out f (slice_get world.world.heap f)
 
   uncaught_match : (a : Active) (n : ℕ) (chain : Chain) (world : Scene) (kept : List (Option Kept)) (u : Option Uncaught) (out : List ℕ) (e : ℕ) → Match (cut.uncaught m a.number e (cut_around world) out) (c.leaves rules code (c_state a n chain world kept u out) (c.uncaught rules code (c_state a n chain world kept u out) e))
   uncaught_match a n chain world kept u out e =

@@ -90,6 +90,11 @@ pub pair_answers : (o : Op) (p q : Option Value) (a b : ℤ) (r : Option Value) 
 pair_answers o p q a b None w h k quick e = tt
 pair_answers o p q a b (Some v) w h k quick e = pair_answered o p q a b v w h k quick e
 
+pub pair_compares : (o : Op) (p q : Option Value) (a b : ℤ) (r : Option Bool) (w : World) → int_of p ≡ Some a → int_of q ≡ Some b → IfSome r (λ t. is_quick o ≡ true) → IfSome r (λ t. int_row o [] (value.Int a ∷ value.Int b ∷ []) ≡ opend.Give (value.Bool t))
+    → IfSome r (λ t. answered w o (both p (both q (Some []))) ≡ Some (given w.heap (value.Bool t)))
+pair_compares o p q a b None w h k quick e = tt
+pair_compares o p q a b (Some t) w h k quick e = pair_answered o p q a b (value.Bool t) w h k quick e
+
 pub truth_answered : (o : Option Value) (b : Bool) (w : World) → truth_of o ≡ Some b → answered w op.Truth (both o (Some [])) ≡ Some (given w.heap (value.Bool b))
 truth_answered None b w h = cc
 truth_answered (Some value.Unset) b w h = cc
@@ -98,6 +103,9 @@ truth_answered (Some (value.Bool c)) b w h = ap (λ o. Some (given w.heap (value
 truth_answered (Some (value.Int z)) b w h = ap (λ o. Some (given w.heap (value.Bool o))) cc
 truth_answered (Some (value.Str text)) b w h = cc
 truth_answered (Some (value.Obj n)) b w h = cc
+
+pub bool_answered : (o : Option Value) (b : Bool) (w : World) → bool_of o ≡ Some b → answered w op.Truth (both o (Some [])) ≡ Some (given w.heap (value.Bool b))
+bool_answered o b w h = ap (λ x. answered w op.Truth (both x (Some []))) (truth o b h)
 
 pub not_answered : (o : Option Value) (b : Bool) (w : World) → bool_of o ≡ Some b → answered w op.Not (both o (Some [])) ≡ Some (given w.heap (value.Bool (not b)))
 not_answered o b w h = ap (λ x. answered w op.Not (both x (Some []))) (truth o b h)

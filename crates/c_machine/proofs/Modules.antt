@@ -1,8 +1,10 @@
 -- The ends of modules, and what is undefined in a module's function.
-use Rattle.std.proofs.Common.{◌≡◌, ℕ, List, [], ◌++◌, Option, Some, None, refl, ap, append-nil, true, false}
+use Rattle.std.proofs.Common.{◌≡◌, ℕ, List, [], ◌++◌, Option, Some, None, refl, ap, append-nil, true, false, slice_get}
 use Rattle.nu_run.specs.declared.End.TheVariants as end
 use Rattle.nu_run.specs.declared.StopKind.TheVariants as stop
 use Rattle.nu_run.specs.Steps.{Halt}
+use Rattle.nu_value.specs.declared.object.Object.{Object}
+use Rattle.nu_value.specs.declared.object.Object.TheVariants as object
 use Rattle.nu_value.specs.declared.value.Value.{Value}
 use Rattle.nu_value.specs.declared.value.Value.TheVariants as value
 use Rattle.nu_calls.specs.Rules.{Rules, table_rules}
@@ -12,8 +14,8 @@ use Rattle.c_meaning.specs.declared.state.Activation.{Activation}
 use Rattle.c_meaning.specs.declared.state.Purpose.TheVariants as purpose
 use Rattle.c_meaning.specs.State.{State, undefined}
 use Rattle.c_meaning.specs.declared.state.Uncaught.{Uncaught}
-use Rattle.c_meaning.specs.Step.{saves, pauses, asks_report}
-use Rattle.c_machine.specs.Values.{is_object}
+use Rattle.c_meaning.specs.Step.{saves, pauses, asks_function, asks_report}
+use Rattle.c_machine.specs.Values.{is_function, names_function}
 
 pub saves_module : (s : State) (slot : ℕ) (v : Option Value) → saves s slot v purpose.Module ≡ undefined s
 saves_module s slot None = refl
@@ -24,20 +26,18 @@ pauses_module rules c s number None below = refl
 pauses_module rules c s number (Some v) below = refl
 
 -- no function is bound yet, so that one that there is can't be asked for a text
-pub asks_bound : (c : Code) (s : State) (u : Uncaught) (o : Option Value) → is_object o ≡ true → asks_report table_rules c s u o ≡ Halt s.printed (end.Stopped stop.Unbuilt)
-asks_bound c s u None h = cc
-asks_bound c s u (Some value.Unset) h = cc
-asks_bound c s u (Some value.None) h = cc
-asks_bound c s u (Some (value.Bool b)) h = cc
-asks_bound c s u (Some (value.Int z)) h = cc
-asks_bound c s u (Some (value.Str text)) h = cc
-asks_bound c s u (Some (value.Obj f)) h = ap (λ l. Halt l (end.Stopped stop.Unbuilt)) (append-nil s.printed)
+function_bound : (c : Code) (s : State) (u : Uncaught) (f : ℕ) (o : Option Object) → is_function o ≡ true → asks_function table_rules c s u f o ≡ Halt s.printed (end.Stopped stop.Unbuilt)
+function_bound c s u f (Some (object.Function code defaults keywords cells)) h = ap (λ l. Halt l (end.Stopped stop.Unbuilt)) (append-nil s.printed)
+function_bound c s u f other h = absurd (cc)
 
-pub asks_none : (c : Code) (s : State) (u : Uncaught) (o : Option Value) → is_object o ≡ false → asks_report table_rules c s u o ≡ Halt s.printed (end.Uncaught (u.head ++ tail_text []))
-asks_none c s u None h = refl
-asks_none c s u (Some value.Unset) h = refl
-asks_none c s u (Some value.None) h = refl
-asks_none c s u (Some (value.Bool b)) h = refl
-asks_none c s u (Some (value.Int z)) h = refl
-asks_none c s u (Some (value.Str text)) h = refl
-asks_none c s u (Some (value.Obj f)) h = cc
+function_none : (c : Code) (s : State) (u : Uncaught) (f : ℕ) (o : Option Object) → is_function o ≡ false → asks_function table_rules c s u f o ≡ Halt s.printed (end.Uncaught (u.head ++ tail_text []))
+function_none c s u f (Some (object.Function code defaults keywords cells)) h = cc
+function_none c s u f other h = refl
+
+pub asks_bound : (c : Code) (s : State) (u : Uncaught) (o : Option Value) → names_function s.around.world.heap o ≡ true → asks_report table_rules c s u o ≡ Halt s.printed (end.Stopped stop.Unbuilt)
+asks_bound c s u (Some (value.Obj f)) h = function_bound c s u f (slice_get s.around.world.heap f) h
+asks_bound c s u other h = absurd (cc)
+
+pub asks_none : (c : Code) (s : State) (u : Uncaught) (o : Option Value) → names_function s.around.world.heap o ≡ false → asks_report table_rules c s u o ≡ Halt s.printed (end.Uncaught (u.head ++ tail_text []))
+asks_none c s u (Some (value.Obj f)) h = function_none c s u f (slice_get s.around.world.heap f) h
+asks_none c s u other h = refl

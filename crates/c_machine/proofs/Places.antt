@@ -1,16 +1,14 @@
 -- Names that are there keep their places where a name gets a value.
-use Rattle.std.proofs.Common.{◌≡◌, ℕ, zero, suc, ◌+◌, ◌≤◌, ◌<◌, List, [], ◌∷◌, ◌++◌, Option, Some, None, Bool, true, false, refl, sym, ap, subst, ◌∙◌, arith, length, nat_lt, add-one, drop}
-use Rattle.std.specs.Prelude.{All, get_or, replicate, slice_get, slice_set, option_map, if◌then◌else◌}
+use Rattle.std.proofs.Common.{◌≡◌, ℕ, zero, suc, ◌+◌, ◌≤◌, ◌<◌, List, [], ◌∷◌, ◌++◌, Option, Some, None, Bool, true, false, refl, sym, ap, subst, ◌∙◌, arith, length, nat_lt, add-one, drop, rules}
+use Rattle.std.specs.Prelude.{All, get_or, replicate, slice_get, slice_set, if◌then◌else◌}
 use Rattle.std.proofs.lemmas.List.Elements.{All-get_or, All-replicate, All-set}
-use Rattle.std.specs.Option.{option_or}
 use Rattle.std.specs.Str.{bytes_eq}
 use Rattle.std.proofs.Math.ListN.{length-set}
 use Rattle.std.proofs.lemmas.Slice.Eq.{bytes_eq-Decides}
-use Rattle.std.proofs.lemmas.Option.{slice_get_within}
 use Rattle.nu_value.specs.declared.object.Object.{Object}
 use Rattle.nu_value.specs.declared.object.Object.TheVariants as object
 use Rattle.nu_value.specs.declared.value.Value.{Value}
-use Rattle.nu_value.specs.Names.{NameList, place_of, value_at, with_name}
+use Rattle.nu_value.specs.Names.{NameList, place_of, with_name, with_value}
 use Rattle.op_rules.specs.NameRows.{names_of, with_binding}
 use Rattle.c_machine.specs.declared.execution.Execution.{Execution}
 use Rattle.c_machine.specs.declared.lookup.Hint.{Hint}
@@ -100,27 +98,40 @@ stays_behind x to v = record { function = refl; places = stay_same (module_names
 pub stays_bound : (x : Execution) (h : List Object) (to : ℕ) (v : Value) → StayIn (module_names x.world) (names_of (slice_get h x.world.«module»)) → Stays x (behind x h to v)
 stays_bound x h to v s = record { function = refl; places = s }
 
--- ---- what a statement found
+-- ---- a value at a place
 
-pub keeps_same : (names : NameList) (o : Option (List ℕ)) (at : ℕ) (h : Hint) → Keeps names o at h h
-keeps_same names o at h n name same r = r
-
-pub keeps_found : (names : NameList) (name : List ℕ) (at p : ℕ) (q : List ℕ × Value) (old : Hint) → p ≡ place_of names name → slice_get names p ≡ Some q → Keeps names (Some name) at old (record { next = at + 1; place = p })
-keeps_found names name at p q old e s n m same r next =
-    let is : n ≡ at = omega (arith, next) in
-    let named : Some name ≡ Some m = same is in
-    let alike : name ≡ m = cc in
-    (ap (place_of names) (sym alike) ∙ sym e, slice_get_within names p q s)
+-- the name that stands at its place
+stands_there : (ps : NameList) (name : List ℕ) (p : List ℕ × Value) → slice_get ps (place_of ps name) ≡ Some p → p.0 ≡ name
+stands_there [] name p h = cc
+stands_there (q ∷ ps) name p h = by (stands_there ps name p) (bytes_eq q.0 name) refl h
+  where
+    by : (slice_get ps (place_of ps name) ≡ Some p → p.0 ≡ name) → (b : Bool) → bytes_eq q.0 name ≡ b → slice_get (q ∷ ps) (step b (place_of ps name)) ≡ Some p → p.0 ≡ name
+    by rest true e h = let same : q ≡ p = cc in ap (λ r. r.0) (sym same) ∙ (bytes_eq-Decides q.0 name).0 e
+    by rest false e h = rest (rw (add-one (place_of ps name)) at h)
 
 there : (names : NameList) (p : ℕ) → p < length names → (q : List ℕ × Value) × (slice_get names p ≡ Some q)
 there [] p l = absurd (omega (arith, l))
 there (q ∷ names) zero l = (q, refl)
 there (q ∷ names) (suc p) l = there names p (omega (arith, l))
 
-pub found_there : (names : NameList) (name : List ℕ) (at : ℕ) (h : Hint) (b : Option Value) → Right names name at h → h.next ≡ at + 1 → option_map (λ q. q.1) (slice_get names h.place) ≡ option_or (value_at names name) b
-found_there names name at h b right next =
-    let q = there names h.place (right next).1 in
-    rw ((right next).0, q.1) refl
+pub value_set : (ps : NameList) (name : List ℕ) (v : Value) (n : ℕ) → place_of ps name ≡ n → n < length ps → with_value ps n v ≡ with_name ps name v
+value_set ps name v n e l =
+    let q = there ps n l in
+    let named : q.0.0 ≡ name = stands_there ps name q.0 (ap (slice_get ps) e ∙ q.1) in
+    let less : nat_lt n (length ps) ≡ true = search (rules, l) in
+    rw (q.1, named, e, less) refl
+
+-- ---- what a statement found
+
+pub keeps_same : (names : NameList) (o : Option (List ℕ)) (at : ℕ) (h : Hint) → Keeps names o at h h
+keeps_same names o at h n name same r = r
+
+pub keeps_found : (names : NameList) (name : List ℕ) (at p : ℕ) (old : Hint) → p ≡ place_of names name → p < length names → Keeps names (Some name) at old (record { next = at + 1; place = p })
+keeps_found names name at p old e l n m same r next =
+    let is : n ≡ at = omega (arith, next) in
+    let named : Some name ≡ Some m = same is in
+    let alike : name ≡ m = cc in
+    (ap (place_of names) (sym alike) ∙ sym e, l)
 
 -- ---- what all statements found
 
@@ -147,3 +158,9 @@ pub one_argument : (arguments : List Argument) (a d : Argument) → get_or argum
 one_argument [] a d e least below = absurd (omega (arith, least))
 one_argument (b ∷ []) a d e least below = ap (λ c. c ∷ []) e
 one_argument (b ∷ c ∷ arguments) a d e least below = absurd (omega (arith, below))
+
+pub two_arguments : (arguments : List Argument) (a b d e : Argument) → get_or arguments 0 d ≡ a → get_or arguments 1 e ≡ b → 2 ≤ length arguments → length arguments < 3 → arguments ≡ a ∷ b ∷ []
+two_arguments [] a b d e f g least below = absurd (omega (arith, least))
+two_arguments (x ∷ []) a b d e f g least below = absurd (omega (arith, least))
+two_arguments (x ∷ y ∷ []) a b d e f g least below = rw (f, g) refl
+two_arguments (x ∷ y ∷ z ∷ arguments) a b d e f g least below = absurd (omega (arith, below))

@@ -1,4 +1,4 @@
--- Where statements that look a name up find it among the names of the module.
+-- Where statements that look a name up or bind it find it among the names of the module.
 use Rattle.std.specs.Prelude.{◌≡◌, ℕ, ◌+◌, ◌<◌, List, [], ◌∷◌, Option, Some, None, length, slice_get}
 use Rattle.nu_value.specs.Names.{NameList, place_of}
 use Rattle.op_rules.specs.declared.op.Op.{Op}
@@ -17,9 +17,10 @@ use Rattle.c_machine.specs.declared.lookup.Hint.{Hint}
 abbrev pub module_names : World → NameList
 module_names w = names_of (slice_get w.heap w.«module»)
 
--- the name that an operation looks up
+-- the name that an operation looks up or binds
 abbrev pub asked : Op → List Argument → Option (List ℕ)
 asked op.Global (argument.Name name ∷ []) = Some name
+asked op.SetGlobal (argument.Name name ∷ a ∷ []) = Some name
 asked o arguments = None
 
 abbrev pub asked_by : Stored → Option (List ℕ)
@@ -43,6 +44,6 @@ pub record Stays (x y : Execution) : Type 0 where
 abbrev pub Right : NameList → List ℕ → ℕ → Hint → Type 0
 Right names name at h = h.next ≡ at + 1 → (place_of names name ≡ h.place) × (h.place < length names)
 
--- what is right of any statement stays so, where the one at this place looks this name up
+-- what is right of any statement stays so, where the one at this place asks for this name
 abbrev pub Keeps : NameList → Option (List ℕ) → ℕ → Hint → Hint → Type 0
 Keeps names asked at old new = (n : ℕ) (name : List ℕ) → (n ≡ at → asked ≡ Some name) → Right names name n old → Right names name n new

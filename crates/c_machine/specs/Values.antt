@@ -1,5 +1,7 @@
 -- What copies of values take.
-use Rattle.std.specs.Prelude.{ℕ, List, [], ◌++◌, Option, Some, None, Bool, true, false}
+use Rattle.std.specs.Prelude.{ℕ, List, [], ◌++◌, Option, Some, None, Bool, true, false, slice_get}
+use Rattle.nu_value.specs.declared.object.Object.{Object}
+use Rattle.nu_value.specs.declared.object.Object.TheVariants as object
 use Rattle.nu_value.specs.declared.value.Value.{Value}
 use Rattle.nu_value.specs.declared.value.Value.TheVariants as value
 use Rattle.nu_value.specs.View.{is_text}
@@ -28,9 +30,14 @@ abbrev pub is_operation : Statement → Bool
 is_operation (statement.Store to what) = is_operated what
 is_operation other = false
 
-abbrev pub is_object : Option Value → Bool
-is_object (Some (value.Obj n)) = true
-is_object other = false
+abbrev pub is_function : Option Object → Bool
+is_function (Some (object.Function code defaults keywords cells)) = true
+is_function other = false
+
+-- whether a value is a function of these objects
+abbrev pub names_function : List Object → Option Value → Bool
+names_function heap (Some (value.Obj n)) = is_function (slice_get heap n)
+names_function heap other = false
 
 -- values behind others
 abbrev pub after_values : List Value → Option (List Value) → Option (List Value)

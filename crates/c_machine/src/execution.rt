@@ -9,7 +9,7 @@ ghost use Rattle.c_meaning.specs.Step as meaning;
 ghost use Rattle.c_meaning.specs.State as states;
 ghost use Rattle.c_machine.specs.Standing.{Outside, state_of, follows};
 ghost use Rattle.c_machine.specs.Light.{is_light_store};
-ghost use Rattle.c_machine.specs.Values.{takes_text, is_operated, is_object};
+ghost use Rattle.c_machine.specs.Values.{takes_text, is_operated, names_function};
 ghost use Rattle.nu_calls.specs.Scripts.{report_function};
 
 use crate::traceback::uncaught_text;
@@ -222,12 +222,15 @@ impl Execution {
 
     // Whether the built-in names have a function for the text of an uncaught exception.
     fn has_report(&self) -> bool
-        ensures { result ≡ is_object (report_function self.now.world) }
+        ensures { result ≡ names_function self.now.world.heap (report_function self.now.world) }
     {
         let Some(Object::Space(names)) = self.world.heap.get(self.world.builtins) else {
             return false;
         };
-        matches!(names.get("_nu_report"), Some(Value::Obj(_)))
+        let Some(Value::Obj(number)) = names.get("_nu_report") else {
+            return false;
+        };
+        matches!(self.world.heap.get(*number), Some(Object::Function { .. }))
     }
 
     // The pending exception leaves the module.

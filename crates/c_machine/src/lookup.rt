@@ -42,9 +42,9 @@ fn place_in(names: &Names, name: &str) -> usize
     names.len()
 }
 
-// The value at a place among the names of a space.
+/// The value at a place among the names of a space.
 #[inline]
-fn value_in(heap: &Heap, space: u64, place: u64) -> Option<&Value>
+pub(crate) fn value_in(heap: &Heap, space: u64, place: u64) -> Option<&Value>
     ensures { option_copied result ≡ option_map (λ p. p.1) (slice_get (names_of (slice_get heap.now space)) place) }
 {
     match heap.get(space) {
@@ -57,6 +57,7 @@ fn value_in(heap: &Heap, space: u64, place: u64) -> Option<&Value>
 }
 
 // The value of a name in a space.
+#[inline(never)]
 fn in_space<'a>(heap: &'a Heap, space: u64, name: &str) -> Option<&'a Value>
     ensures { option_copied result ≡ value_at (names_of (slice_get heap.now space)) name.now }
 {
@@ -66,33 +67,45 @@ fn in_space<'a>(heap: &'a Heap, space: u64, name: &str) -> Option<&'a Value>
     }
 }
 
-// The value of a name in the module, or else among the built-in names; where the statement at this place found it is kept.
+// The place of a name among those of the module, or their length; where the name stands there, the statement at this place keeps it.
 #[inline(never)]
 #[tactic(auto, using(crate::proofs::Places::keeps_found, crate::proofs::Places::keeps_same))]
-fn search_names<'a>(world: &'a World, name: &str, at: u64, hint: &mut Hint) -> Option<&'a Value>
+fn search_place(world: &World, name: &str, at: u64, hint: &mut Hint) -> u64
     requires { at + 1 < 2 ^ 64 }
-    ensures value { option_copied result ≡ option_or (value_at (module_names world.now) name.now) (value_at (names_of (slice_get world.now.heap world.now.builtins)) name.now) }
+    ensures place { result ≡ place_of (module_names world.now) name.now }
     ensures hint { Keeps (module_names world.now) (Some name.now) at hint.old hint.new }
 {
     let Some(Object::Space(names)) = world.heap.get(world.module) else {
-        return in_space(&world.heap, world.builtins, name);
+        return 0;
     };
     let place = place_in(names, name);
-    match names.at(place) {
-        Some((_, value)) => {
-            *hint = Hint {
-                next: at + 1,
-                place: place as u64,
-            };
-            Some(value)
-        }
-        None => in_space(&world.heap, world.builtins, name),
+    if place < names.len() {
+        *hint = Hint {
+            next: at + 1,
+            place: place as u64,
+        };
+    }
+    place as u64
+}
+
+/// The place of a name among those of the module, or their length, for the statement at this place.
+#[inline]
+#[tactic(auto, using(crate::proofs::Places::keeps_same))]
+pub(crate) fn place_for(world: &World, name: &str, at: u64, hint: &mut Hint) -> u64
+    requires small { at + 1 < 2 ^ 64 }
+    requires right { Right (module_names world.now) name.now at hint.old }
+    ensures place { result ≡ place_of (module_names world.now) name.now }
+    ensures hint { Keeps (module_names world.now) (Some name.now) at hint.old hint.new }
+{
+    if hint.next == at + 1 {
+        hint.place
+    } else {
+        search_place(world, name, at, hint)
     }
 }
 
 /// The value of a name in the module, or else among the built-in names, for the statement at this place.
 #[inline]
-#[tactic(auto, using(crate::proofs::Places::found_there))]
 pub(crate) fn look_up<'a>(
     world: &'a World,
     name: &str,
@@ -104,9 +117,9 @@ pub(crate) fn look_up<'a>(
     ensures value { option_copied result ≡ option_or (value_at (module_names world.now) name.now) (value_at (names_of (slice_get world.now.heap world.now.builtins)) name.now) }
     ensures hint { Keeps (module_names world.now) (Some name.now) at hint.old hint.new }
 {
-    if hint.next == at + 1 {
-        value_in(&world.heap, world.module, hint.place)
-    } else {
-        search_names(world, name, at, hint)
+    let place = place_for(world, name, at, hint);
+    match value_in(&world.heap, world.module, place) {
+        Some(value) => Some(value),
+        None => in_space(&world.heap, world.builtins, name),
     }
 }

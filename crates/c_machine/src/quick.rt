@@ -1,354 +1,26 @@
 //! Statements that are taken in place: operations without the table, and only where the run goes on.
 
-ghost use Rattle.std.specs.Prelude.{◌≡◌, ◌+◌, ◌<◌, ◌≤◌, ◌^◌, ◌∷◌, [], ℕ, List, Option, OnSome, Some, None, IfSome, true, false, length, slice_get, slice_set, option_copied};
-ghost use Rattle.std.specs.Option.{option_or};
-ghost use Rattle.nu_value.specs.declared.value.Value.TheVariants as value;
-ghost use Rattle.nu_value.specs.Names.{value_at};
-ghost use Rattle.op_rules.specs.declared.end.OpEnd.TheVariants as opend;
+ghost use Rattle.std.specs.Prelude.{◌≡◌, ◌+◌, ◌<◌, ◌≤◌, ◌^◌, [], ℕ, List, Option, OnSome, Some, None, true, false, slice_get, option_copied};
 ghost use Rattle.op_rules.specs.declared.op.Op.TheVariants as op;
-ghost use Rattle.op_rules.specs.Fits.{is_in};
-ghost use Rattle.op_rules.specs.IntRows.{int_row};
-ghost use Rattle.op_rules.specs.NameRows.{names_of, with_binding};
-ghost use Rattle.op_rules.specs.Numbers.{computed_end};
 ghost use Rattle.nu_calls.specs.Rules.{table_rules};
 ghost use Rattle.c_meaning.specs.Step as meaning;
 ghost use Rattle.c_meaning.specs.State as states;
-ghost use Rattle.c_machine.specs.Effects.{answered};
 ghost use Rattle.nu_run.specs.Steps.{More};
 ghost use Rattle.c_machine.specs.Standing.{Outside, state_of};
 ghost use Rattle.c_machine.specs.Walks.{Leads};
-ghost use Rattle.c_machine.specs.Places.{Keeps, Right, StayIn, Stays, asked, looked_up, module_names};
-ghost use Rattle.c_machine.specs.InPlace.{GoesOn, Operated, behind, bool_of, bound_in, given, int_of, is_quick, truth_of, with_heap};
+ghost use Rattle.c_machine.specs.Places.{Keeps, Right, Stays, asked, looked_up, module_names};
+ghost use Rattle.c_machine.specs.InPlace.{GoesOn, Operated, behind};
 
-use crate::execution::{Execution, held};
-use crate::lookup::{Hint, look_up};
+use crate::binding::{set_found, set_global};
+use crate::execution::Execution;
+use crate::lookup::Hint;
+use crate::values::{
+    bool_at, compared, found_value, global_value, held_by, known_truth, numbers_value, truth_value,
+    value_of,
+};
 use c_meaning::{Argument, Code, Operand, Placed, Statement, Stored};
-use nu_text::RcStr;
-use nu_value::{Heap, Object, Slots, Value};
-use op_rules::{Computed, Op, compute};
-use runtime_table::World;
-
-// The bool that an operand is, if it is one.
-#[inline]
-fn bool_at(registers: &Slots, operand: &Operand) -> Option<bool>
-    ensures { result ≡ bool_of (meaning.held registers.now operand.now) }
-{
-    match operand {
-        Operand::Register(register) => match registers.get(*register as usize) {
-            Some(Some(Value::Bool(truth))) => Some(*truth),
-            _ => None,
-        },
-        Operand::True => Some(true),
-        Operand::False => Some(false),
-        Operand::None | Operand::Int(_) | Operand::Str(_) => None,
-    }
-}
-
-// The integer that an operand is, if it is one.
-#[inline]
-fn int_at(registers: &Slots, operand: &Operand) -> Option<i128>
-    ensures { result ≡ int_of (meaning.held registers.now operand.now) }
-{
-    match operand {
-        Operand::Register(register) => match registers.get(*register as usize) {
-            Some(Some(Value::Int(number))) => Some(*number),
-            _ => None,
-        },
-        Operand::Int(number) => Some(*number),
-        Operand::None | Operand::True | Operand::False | Operand::Str(_) => None,
-    }
-}
-
-// The truth value of an operand that is no object.
-#[inline]
-fn truth_at(registers: &Slots, operand: &Operand) -> Option<bool>
-    ensures { result ≡ truth_of (meaning.held registers.now operand.now) }
-{
-    match operand {
-        Operand::Register(register) => match registers.get(*register as usize) {
-            Some(Some(Value::Int(number))) => Some(*number != 0),
-            Some(Some(Value::Bool(truth))) => Some(*truth),
-            Some(Some(Value::None)) => Some(false),
-            _ => None,
-        },
-        Operand::None => Some(false),
-        Operand::True => Some(true),
-        Operand::False => Some(false),
-        Operand::Int(number) => Some(*number != 0),
-        Operand::Str(_) => None,
-    }
-}
-
-// The integer that an argument is, if it is one.
-#[inline]
-fn int_in(registers: &Slots, argument: &Argument) -> Option<i128>
-    ensures { result ≡ int_of (meaning.argument_value registers.now argument.now) }
-{
-    match argument {
-        Argument::Value(operand) => int_at(registers, operand),
-        Argument::Name(_) => None,
-    }
-}
-
-// The same value once more, if there is memory for it.
-#[inline]
-fn copied(value: &Value) -> Option<Value>
-    ensures { IfSome result (λ v. v ≡ value.now) }
-{
-    match value.copy() {
-        Ok(value) => Some(value),
-        Err(_) => None,
-    }
-}
-
-// What an operand holds, if it has a value and there is memory for it.
-#[inline]
-fn held_by(registers: &Slots, operand: &Operand) -> Option<Value>
-    ensures { IfSome result (λ v. meaning.held registers.now operand.now ≡ Some v) }
-{
-    match held(registers, operand) {
-        Ok(held) => held,
-        Err(_) => None,
-    }
-}
-
-// The integer of what was computed, if it is one.
-#[inline]
-fn number(found: Computed) -> Option<Value>
-    ensures { IfSome result (λ v. computed_end found ≡ opend.Give v) }
-{
-    match found {
-        Computed::Int(number) => Some(Value::Int(number)),
-        _ => None,
-    }
-}
-
-// What an operation on two integers gives, if it gives a value.
-#[inline]
-#[tactic(auto, using(crate::proofs::InPlace::eq_integers, crate::proofs::InPlace::ne_integers))]
-fn of_integers(op: Op, a: i128, b: i128) -> Option<Value>
-    ensures quick { IfSome result (λ _. is_quick op ≡ true) }
-    ensures value { IfSome result (λ v. int_row op [] (value.Int a ∷ value.Int b ∷ []) ≡ opend.Give v) }
-{
-    match op {
-        Op::Add => number(compute(Op::Add, a, b)),
-        Op::IAdd => number(compute(Op::IAdd, a, b)),
-        Op::Sub => number(compute(Op::Sub, a, b)),
-        Op::Mul => number(compute(Op::Mul, a, b)),
-        Op::IMul => number(compute(Op::IMul, a, b)),
-        Op::FloorDiv => number(compute(Op::FloorDiv, a, b)),
-        Op::Mod => number(compute(Op::Mod, a, b)),
-        Op::Pow => number(compute(Op::Pow, a, b)),
-        Op::LShift => number(compute(Op::LShift, a, b)),
-        Op::RShift => number(compute(Op::RShift, a, b)),
-        Op::And => number(compute(Op::And, a, b)),
-        Op::Or => number(compute(Op::Or, a, b)),
-        Op::Xor => number(compute(Op::Xor, a, b)),
-        Op::Lt => Some(Value::Bool(a < b)),
-        Op::Le => Some(Value::Bool(a <= b)),
-        Op::Gt => Some(Value::Bool(a > b)),
-        Op::Ge => Some(Value::Bool(a >= b)),
-        Op::Eq => Some(Value::Bool(a == b)),
-        Op::Ne => Some(Value::Bool(a != b)),
-        _ => None,
-    }
-}
-
-// What an operation gives whose two arguments are integers, if it gives a value.
-#[inline]
-fn of_two(registers: &Slots, world: &World, op: Op, a: &Argument, b: &Argument) -> Option<Value>
-    ensures { IfSome result (λ v. answered world.now op (meaning.values registers.now (a.now ∷ b.now ∷ [])) ≡ Some (given world.now.heap v)) }
-{
-    match (int_in(registers, a), int_in(registers, b)) {
-        (Some(x), Some(y)) => of_integers(op, x, y),
-        _ => None,
-    }
-}
-
-#[inline]
-fn numbers_value(registers: &Slots, world: &World, op: Op, arguments: &[Argument]) -> Option<Value>
-    ensures { IfSome result (λ v. answered world.now op (meaning.values registers.now arguments.now) ≡ Some (given world.now.heap v)) }
-{
-    match arguments {
-        [a, b] => of_two(registers, world, op, a, b),
-        _ => None,
-    }
-}
-
-// The truth value of an argument that is no object.
-#[inline]
-#[tactic(auto, using(crate::proofs::InPlace::truth_answered))]
-fn truth_value(registers: &Slots, world: &World, arguments: &[Argument]) -> Option<Value>
-    ensures { IfSome result (λ v. answered world.now op.Truth (meaning.values registers.now arguments.now) ≡ Some (given world.now.heap v)) }
-{
-    let [Argument::Value(operand)] = arguments else {
-        return None;
-    };
-    match truth_at(registers, operand) {
-        Some(truth) => Some(Value::Bool(truth)),
-        None => None,
-    }
-}
-
-// The other bool.
-#[inline]
-#[tactic(auto, using(crate::proofs::InPlace::not_answered))]
-fn not_value(registers: &Slots, world: &World, arguments: &[Argument]) -> Option<Value>
-    ensures { IfSome result (λ v. answered world.now op.Not (meaning.values registers.now arguments.now) ≡ Some (given world.now.heap v)) }
-{
-    let [Argument::Value(operand)] = arguments else {
-        return None;
-    };
-    match bool_at(registers, operand) {
-        Some(truth) => Some(Value::Bool(!truth)),
-        None => None,
-    }
-}
-
-// Whether it is a value, and the object that it names is there.
-#[inline]
-fn is_there(count: u64, value: &Value) -> bool
-    ensures { result ≡ is_in count value.now }
-{
-    match value {
-        Value::Unset => false,
-        Value::Obj(number) => *number < count,
-        _ => true,
-    }
-}
-
-// What an argument holds, if it has a value that is set, of an object that is there, and there is memory for it.
-#[inline]
-fn known(registers: &Slots, count: u64, argument: &Argument) -> Option<Value>
-    ensures value { IfSome result (λ v. meaning.argument_value registers.now argument.now ≡ Some v) }
-    ensures known { IfSome result (λ v. is_in count v ≡ true) }
-{
-    let Argument::Value(operand) = argument else {
-        return None;
-    };
-    match held_by(registers, operand) {
-        Some(value) if is_there(count, &value) => Some(value),
-        _ => None,
-    }
-}
-
-// Whether two values are identical.
-#[inline(never)]
-#[tactic(auto, using(crate::proofs::InPlace::is_answered))]
-fn is_value(registers: &Slots, world: &World, arguments: &[Argument]) -> Option<Value>
-    ensures { IfSome result (λ v. answered world.now op.Is (meaning.values registers.now arguments.now) ≡ Some (given world.now.heap v)) }
-{
-    let [a, b] = arguments else {
-        return None;
-    };
-    let count = world.heap.len();
-    match (known(registers, count, a), known(registers, count, b)) {
-        (Some(x), Some(y)) => Some(Value::Bool(x.is_identical(&y))),
-        _ => None,
-    }
-}
-
-// Whether two values aren't identical.
-#[inline(never)]
-#[tactic(auto, using(crate::proofs::InPlace::isnot_answered))]
-fn isnot_value(registers: &Slots, world: &World, arguments: &[Argument]) -> Option<Value>
-    ensures { IfSome result (λ v. answered world.now op.IsNot (meaning.values registers.now arguments.now) ≡ Some (given world.now.heap v)) }
-{
-    let [a, b] = arguments else {
-        return None;
-    };
-    let count = world.heap.len();
-    match (known(registers, count, a), known(registers, count, b)) {
-        (Some(x), Some(y)) => Some(Value::Bool(!x.is_identical(&y))),
-        _ => None,
-    }
-}
-
-// The value of a name, for the statement at this place.
-#[inline]
-#[tactic(auto, using(crate::proofs::InPlace::global_answered))]
-fn global_value(
-    registers: &Slots,
-    world: &World,
-    arguments: &[Argument],
-    at: u64,
-    hint: &mut Hint,
-) -> Option<Value>
-    requires small { at + 1 < 2 ^ 64 }
-    requires right { (name : List ℕ) → asked op.Global arguments.now ≡ Some name → Right (module_names world.now) name at hint.old }
-    ensures value { IfSome result (λ v. answered world.now op.Global (meaning.values registers.now arguments.now) ≡ Some (given world.now.heap v)) }
-    ensures hint { Keeps (module_names world.now) (asked op.Global arguments.now) at hint.old hint.new }
-{
-    let [Argument::Name(name)] = arguments else {
-        return None;
-    };
-    match look_up(world, name.as_str(), at, hint) {
-        Some(value) => copied(value),
-        None => None,
-    }
-}
-
-// What an operation gives that changes no object, if it is one of these.
-#[inline]
-fn value_of(registers: &Slots, world: &World, op: Op, arguments: &[Argument]) -> Option<Value>
-    ensures { IfSome result (λ v. answered world.now op (meaning.values registers.now arguments.now) ≡ Some (given world.now.heap v)) }
-{
-    match op {
-        Op::Not => not_value(registers, world, arguments),
-        Op::Is => is_value(registers, world, arguments),
-        Op::IsNot => isnot_value(registers, world, arguments),
-        _ => numbers_value(registers, world, op, arguments),
-    }
-}
-
-// A name gets a value; false where there is no memory for it, and then nothing has changed.
-#[inline]
-fn bind(object: &mut Object, name: &RcStr, value: Value) -> bool
-    ensures bound { result ≡ true → object.new ≡ with_binding name.now value object.old }
-    ensures same { result ≡ false → object.new ≡ object.old }
-{
-    let Object::Space(names) = object else {
-        return true;
-    };
-    match name.share() {
-        Ok(name) => names.set(name, value).is_ok(),
-        Err(_) => false,
-    }
-}
-
-#[inline]
-#[tactic(auto, using(crate::proofs::InPlace::set_same))]
-fn bind_in(heap: &mut Heap, space: u64, name: &RcStr, value: Value) -> bool
-    ensures bound { result ≡ true → bound_in heap.old space name.now value (slice_get heap.old space) ≡ Some heap.new }
-    ensures same { result ≡ false → heap.new ≡ heap.old }
-{
-    let Some(object) = heap.get_mut(space) else {
-        return false;
-    };
-    bind(object, name, value)
-}
-
-// A name of the module gets a value; where it doesn't, nothing has changed.
-#[inline(never)]
-#[tactic(auto, using(crate::proofs::InPlace::set_answered))]
-fn set_global(registers: &Slots, world: &mut World, arguments: &[Argument]) -> bool
-    ensures bound { result ≡ true → answered world.old op.SetGlobal (meaning.values registers.now arguments.now) ≡ Some (given world.new.heap value.None) }
-    ensures world { world.new ≡ with_heap world.old world.new.heap }
-    ensures same { result ≡ false → world.new ≡ world.old }
-    ensures stays { StayIn (module_names world.old) (module_names world.new) }
-{
-    let [Argument::Name(name), Argument::Value(operand)] = arguments else {
-        return false;
-    };
-    let Some(value) = held_by(registers, operand) else {
-        return false;
-    };
-    if !is_there(world.heap.len(), &value) {
-        return false;
-    }
-    let module = world.module;
-    bind_in(&mut world.heap, module, name, value)
-}
+use nu_value::Value;
+use op_rules::Op;
 
 impl Execution {
     // A register has a value, and the run goes on.
@@ -363,8 +35,27 @@ impl Execution {
 
     // The value of a name.
     #[inline(never)]
-    #[tactic(auto, using(crate::proofs::InPlace::operates_on, crate::proofs::Places::stays_behind))]
+    #[tactic(auto, using(crate::proofs::InPlace::operates_on, crate::proofs::Places::stays_behind, crate::proofs::Places::keeps_same))]
     fn looks_up(&mut self, to: u64, arguments: &[Argument], hint: &mut Hint) -> bool
+        requires small { self.old.place + 1 < 2 ^ 64 }
+        requires right { (name : List ℕ) → asked op.Global arguments.now ≡ Some name → Right (module_names self.old.world) name self.old.place hint.old }
+        ensures hint { Keeps (module_names self.old.world) (asked op.Global arguments.now) self.old.place hint.old hint.new }
+        ensures goes { result ≡ true → Operated op.Global to arguments.now self.old self.new }
+        ensures same { result ≡ false → self.new ≡ self.old }
+        ensures stays { Stays self.old self.new }
+    {
+        match found_value(&self.registers, &self.world, arguments, self.place, *hint) {
+            Some(value) => {
+                self.advance(to, value);
+                true
+            }
+            None => self.looks_up_any(to, arguments, hint),
+        }
+    }
+
+    #[inline(never)]
+    #[tactic(auto, using(crate::proofs::InPlace::operates_on, crate::proofs::Places::stays_behind))]
+    fn looks_up_any(&mut self, to: u64, arguments: &[Argument], hint: &mut Hint) -> bool
         requires small { self.old.place + 1 < 2 ^ 64 }
         requires right { (name : List ℕ) → asked op.Global arguments.now ≡ Some name → Right (module_names self.old.world) name self.old.place hint.old }
         ensures hint { Keeps (module_names self.old.world) (asked op.Global arguments.now) self.old.place hint.old hint.new }
@@ -381,10 +72,27 @@ impl Execution {
         }
     }
 
-    // The truth value of what is no object.
+    // The truth value of a bool, or of another value that is no object.
     #[inline(never)]
     #[tactic(auto, using(crate::proofs::InPlace::operates_on, crate::proofs::Places::stays_behind))]
     fn tests(&mut self, to: u64, arguments: &[Argument]) -> bool
+        requires { self.old.place + 1 < 2 ^ 64 }
+        ensures goes { result ≡ true → Operated op.Truth to arguments.now self.old self.new }
+        ensures same { result ≡ false → self.new ≡ self.old }
+        ensures stays { Stays self.old self.new }
+    {
+        match known_truth(&self.registers, &self.world, arguments) {
+            Some(truth) => {
+                self.advance(to, Value::Bool(truth));
+                true
+            }
+            None => self.tests_other(to, arguments),
+        }
+    }
+
+    #[inline(never)]
+    #[tactic(auto, using(crate::proofs::InPlace::operates_on, crate::proofs::Places::stays_behind))]
+    fn tests_other(&mut self, to: u64, arguments: &[Argument]) -> bool
         requires { self.old.place + 1 < 2 ^ 64 }
         ensures goes { result ≡ true → Operated op.Truth to arguments.now self.old self.new }
         ensures same { result ≡ false → self.new ≡ self.old }
@@ -417,16 +125,65 @@ impl Execution {
         }
     }
 
-    // A name of the module gets a value.
+    // A name of the module gets a value where the statement found it.
     #[inline]
     #[tactic(auto, using(crate::proofs::InPlace::operates_on, crate::proofs::Places::stays_bound))]
-    fn binds(&mut self, to: u64, arguments: &[Argument]) -> bool
-        requires { self.old.place + 1 < 2 ^ 64 }
+    fn binds_found(&mut self, to: u64, arguments: &[Argument], hint: Hint) -> bool
+        requires small { self.old.place + 1 < 2 ^ 64 }
+        requires right { (name : List ℕ) → asked op.SetGlobal arguments.now ≡ Some name → Right (module_names self.old.world) name self.old.place hint }
         ensures goes { result ≡ true → Operated op.SetGlobal to arguments.now self.old self.new }
         ensures same { result ≡ false → self.new ≡ self.old }
         ensures stays { Stays self.old self.new }
     {
-        if set_global(&self.registers, &mut self.world, arguments) {
+        if set_found(
+            &self.registers,
+            &mut self.world,
+            arguments,
+            self.place,
+            hint,
+        ) {
+            self.advance(to, Value::None);
+            true
+        } else {
+            false
+        }
+    }
+
+    // A name of the module gets a value.
+    #[inline(never)]
+    #[tactic(auto, using(crate::proofs::Places::keeps_same))]
+    fn binds(&mut self, to: u64, arguments: &[Argument], hint: &mut Hint) -> bool
+        requires small { self.old.place + 1 < 2 ^ 64 }
+        requires right { (name : List ℕ) → asked op.SetGlobal arguments.now ≡ Some name → Right (module_names self.old.world) name self.old.place hint.old }
+        ensures hint { Keeps (module_names self.old.world) (asked op.SetGlobal arguments.now) self.old.place hint.old hint.new }
+        ensures goes { result ≡ true → Operated op.SetGlobal to arguments.now self.old self.new }
+        ensures same { result ≡ false → self.new ≡ self.old }
+        ensures stays { Stays self.old self.new }
+    {
+        if self.binds_found(to, arguments, *hint) {
+            true
+        } else {
+            self.binds_any(to, arguments, hint)
+        }
+    }
+
+    #[inline(never)]
+    #[tactic(auto, using(crate::proofs::InPlace::operates_on, crate::proofs::Places::stays_bound))]
+    fn binds_any(&mut self, to: u64, arguments: &[Argument], hint: &mut Hint) -> bool
+        requires small { self.old.place + 1 < 2 ^ 64 }
+        requires right { (name : List ℕ) → asked op.SetGlobal arguments.now ≡ Some name → Right (module_names self.old.world) name self.old.place hint.old }
+        ensures hint { Keeps (module_names self.old.world) (asked op.SetGlobal arguments.now) self.old.place hint.old hint.new }
+        ensures goes { result ≡ true → Operated op.SetGlobal to arguments.now self.old self.new }
+        ensures same { result ≡ false → self.new ≡ self.old }
+        ensures stays { Stays self.old self.new }
+    {
+        if set_global(
+            &self.registers,
+            &mut self.world,
+            arguments,
+            self.place,
+            hint,
+        ) {
             self.advance(to, Value::None);
             true
         } else {
@@ -482,21 +239,21 @@ impl Execution {
         self.computes(to, Op::Sub, arguments)
     }
 
+    // A comparison of two integers.
     #[inline(never)]
+    #[tactic(auto, using(crate::proofs::InPlace::operates_on, crate::proofs::Places::stays_behind))]
     fn compares(&mut self, to: u64, op: Op, arguments: &[Argument]) -> bool
         requires { self.old.place + 1 < 2 ^ 64 }
         ensures goes { result ≡ true → Operated op to arguments.now self.old self.new }
         ensures same { result ≡ false → self.new ≡ self.old }
         ensures stays { Stays self.old self.new }
     {
-        match op {
-            Op::Lt => self.computes(to, Op::Lt, arguments),
-            Op::Le => self.computes(to, Op::Le, arguments),
-            Op::Gt => self.computes(to, Op::Gt, arguments),
-            Op::Ge => self.computes(to, Op::Ge, arguments),
-            Op::Eq => self.computes(to, Op::Eq, arguments),
-            Op::Ne => self.computes(to, Op::Ne, arguments),
-            _ => self.reads(to, op, arguments),
+        match compared(&self.registers, &self.world, op, arguments) {
+            Some(truth) => {
+                self.advance(to, Value::Bool(truth));
+                true
+            }
+            None => false,
         }
     }
 
@@ -512,12 +269,15 @@ impl Execution {
     {
         match op {
             Op::Global => self.looks_up(to, arguments, hint),
-            Op::SetGlobal => self.binds(to, arguments),
+            Op::SetGlobal => self.binds(to, arguments, hint),
             Op::Truth => self.tests(to, arguments),
             Op::Add => self.adds(to, arguments),
             Op::IAdd => self.adds_on(to, arguments),
             Op::Sub => self.subtracts(to, arguments),
-            _ => self.compares(to, op, arguments),
+            Op::Lt | Op::Le | Op::Gt | Op::Ge | Op::Eq | Op::Ne => {
+                self.compares(to, op, arguments)
+            }
+            _ => self.reads(to, op, arguments),
         }
     }
 
@@ -609,6 +369,7 @@ impl Execution {
     }
 
     /// Takes statements in place, as far as that goes, at most so many, and answers how many. None of them prints.
+    #[inline(never)]
     pub(crate) fn hurry(&mut self, code: &Code, most: u64) -> u64
         ensures few { result ≤ most }
         ensures leads { (w : Outside) → Leads (meaning.step table_rules code.now) states.printed_in result result (More (state_of self.old w)) (More (state_of self.new w)) }

@@ -34,7 +34,7 @@ use Rattle.c_meaning.specs.declared.state.Told.TheVariants as told
 use Rattle.c_meaning.specs.declared.state.Uncaught.{Uncaught}
 use Rattle.c_meaning.specs.Code.{code_of}
 use Rattle.c_meaning.specs.State.{State, printed_in, keeping, in_scene, printing, jumps}
-use Rattle.c_meaning.specs.Step.{held, used, values, kept_for, told_of, Site, site_in, placed_at, stores, branches, takes, pends, again, loads, saves_in, saves, switches, raised, settles, settles_at, begins_body, enters, begins_generator, wakes, begins, began, operates, back, report_begins, report_began, asks_report, leaves, uncaught, module_begins, module_over, module_ended, report_ended, ended, body_ended, returns, fails, pauses_with, pauses, receives, stored_step, statement_step, placed_step, step}
+use Rattle.c_meaning.specs.Step.{held, used, values, kept_for, told_of, Site, site_in, placed_at, stores, branches, takes, pends, again, loads, saves_in, saves, switches, raised, settles, settles_at, begins_body, enters, begins_generator, wakes, begins, began, operates, back, report_begins, report_began, asks_function, asks_report, leaves, uncaught, module_begins, module_over, module_ended, report_ended, ended, body_ended, returns, fails, pauses_with, pauses, receives, stored_step, statement_step, placed_step, step}
 use Rattle.c_meaning.specs.Run.{start, c_run}
 
 module _ (base : List ℕ) where
@@ -150,6 +150,11 @@ module _ (base : List ℕ) where
     report_began_grows : (s : State) (u : Uncaught) (b : Began) → IsPrefix base s.printed → Grows (report_began rules c s u b)
     report_began_grows s u b p = report_begins_grows (in_scene s b.scene) u b.begun p
 
+    asks_function_grows : (s : State) (u : Uncaught) (f : ℕ) (o : Option Object) → IsPrefix base s.printed → Grows (asks_function rules c s u f o)
+    asks_function_grows s u f (Some (object.Function code defaults keywords cells)) p =
+        report_began_grows s u (begun_by c.scripts (scene s.around) (rules.bind s.around.world f (value.Obj u.exception ∷ []) after.Plain)) p
+    asks_function_grows s u f other p = p
+
     asks_report_grows : (s : State) (u : Uncaught) (f : Option Value) → IsPrefix base s.printed → Grows (asks_report rules c s u f)
     asks_report_grows s u None p = p
     asks_report_grows s u (Some value.Unset) p = p
@@ -157,7 +162,7 @@ module _ (base : List ℕ) where
     asks_report_grows s u (Some (value.Bool b)) p = p
     asks_report_grows s u (Some (value.Int z)) p = p
     asks_report_grows s u (Some (value.Str text)) p = p
-    asks_report_grows s u (Some (value.Obj f)) p = report_began_grows s u (begun_by c.scripts (scene s.around) (rules.bind s.around.world f (value.Obj u.exception ∷ []) after.Plain)) p
+    asks_report_grows s u (Some (value.Obj f)) p = asks_function_grows s u f (slice_get s.around.world.heap f) p
 
     leaves_grows : (s : State) (u : Uncaught) → IsPrefix base s.printed → Grows (leaves rules c s u)
     leaves_grows s u p =

@@ -228,9 +228,13 @@ module _ (rules : Rules) (c : Code) where
   report_began s u b = report_begins (in_scene s b.scene) u b.begun
 
   -- its own text is asked for, if the built-in names have such a function
-  abbrev pub asks_report : State → Uncaught → Option Value → Stepped State
-  asks_report s u (Some (value.Obj f)) =
+  abbrev pub asks_function : State → Uncaught → ℕ → Option Object → Stepped State
+  asks_function s u f (Some (object.Function code defaults keywords cells)) =
       report_began s u (begun_by c.scripts (scene s.around) (rules.bind s.around.world f (value.Obj u.exception ∷ []) after.Plain))
+  asks_function s u f other = halted s (reported u (Gives value.None))
+
+  abbrev pub asks_report : State → Uncaught → Option Value → Stepped State
+  asks_report s u (Some (value.Obj f)) = asks_function s u f (slice_get s.around.world.heap f)
   asks_report s u other = halted s (reported u (Gives value.None))
 
   -- an exception leaves a module: its entries are fixed, and no frame is live

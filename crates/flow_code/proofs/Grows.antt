@@ -17,7 +17,7 @@ use Rattle.nu_calls.specs.Traceback.{head_text}
 use Rattle.nu_calls.specs.Ends.{Result, Gives, Raises, Stops, Unsaid, Ending, Begun, Over, Calls, Starts, Wakes, Began, begun_by, generator_paused, generator_ended, call_ended, outside}
 use Rattle.flow_code.specs.declared.statement.Statement.{Statement}
 use Rattle.flow_code.specs.declared.statement.Statement.TheVariants as flat
-use Rattle.flow_code.specs.Machine.{Waiting, Bottom, Builtins, Script, Report, Stack, Base, Called, Resumed, State, Functions, undefined, using, having, settles, ends, enters, told, goes_on, begins, operates, report_begins, report_began, reports, uncaught, script_begins, module_ended, base_ended, body_ended, paused, branches, pending_exception, again, held, values, acts, acts_at, step, printed}
+use Rattle.flow_code.specs.Machine.{Waiting, Bottom, Builtins, Script, Report, Stack, Base, Called, Resumed, State, Functions, undefined, using, having, settles, ends, enters, told, goes_on, begins, operates, report_begins, report_began, asks_function, reports, uncaught, script_begins, module_ended, base_ended, body_ended, paused, branches, pending_exception, again, held, values, acts, acts_at, step, printed}
 use Rattle.flow_code.specs.Run.{begun, machine_run}
 
 module _ {L : Type 0} (m : Functions L) (base : List ℕ) where
@@ -73,6 +73,11 @@ module _ {L : Type 0} (m : Functions L) (base : List ℕ) where
   report_began_grows : (head : List ℕ) (c : ℕ) (a : Surroundings (Waiting L)) (out : List ℕ) (b : Began) → IsPrefix base out → Grows (report_began m head c a out b)
   report_began_grows head c a out b p = report_begins_grows head c (with_scene a b.scene) out b.begun p
 
+  asks_grows : (head : List ℕ) (c e : ℕ) (a : Surroundings (Waiting L)) (out : List ℕ) (f : ℕ) (x : Option Object) → IsPrefix base out → Grows (asks_function m head c e a out f x)
+  asks_grows head c e a out f None p = p
+  asks_grows head c e a out f (Some (object.Function code defaults keywords cells)) p = report_began_grows head c a out (begun_by m.scripts (scene a) (m.rules.bind a.world f (value.Obj e ∷ []) after.Plain)) p
+  asks_grows head c e a out f (Some other) p = p
+
   reports_grows : (head : List ℕ) (c e : ℕ) (a : Surroundings (Waiting L)) (out : List ℕ) (f : Option Value) → IsPrefix base out → Grows (reports m head c e a out f)
   reports_grows head c e a out None p = p
   reports_grows head c e a out (Some value.Unset) p = p
@@ -80,7 +85,7 @@ module _ {L : Type 0} (m : Functions L) (base : List ℕ) where
   reports_grows head c e a out (Some (value.Bool b)) p = p
   reports_grows head c e a out (Some (value.Int z)) p = p
   reports_grows head c e a out (Some (value.Str text)) p = p
-  reports_grows head c e a out (Some (value.Obj f)) p = report_began_grows head c a out (begun_by m.scripts (scene a) (m.rules.bind a.world f (value.Obj e ∷ []) after.Plain)) p
+  reports_grows head c e a out (Some (value.Obj f)) p = asks_grows head c e a out f (slice_get a.world.heap f) p
 
   uncaught_grows : (c e : ℕ) (a : Surroundings (Waiting L)) (out : List ℕ) → IsPrefix base out → Grows (uncaught m c e a out)
   uncaught_grows c e a out p = reports_grows (head_text m.file a.world.heap e) c e (with_scene a (with_frames (scene a) 0)) out (report_function a.world) p

@@ -182,9 +182,13 @@ module _ {L : Type 0} (m : Functions L) where
   abbrev pub report_began : List ℕ → ℕ → Surroundings (Waiting L) → List ℕ → Began → Stepped (State L)
   report_began head c a out b = report_begins head c (with_scene a b.scene) out b.begun
 
-  abbrev pub reports : List ℕ → ℕ → ℕ → Surroundings (Waiting L) → List ℕ → Option Value → Stepped (State L)
-  reports head c e a out (Some (value.Obj f)) =
+  abbrev pub asks_function : List ℕ → ℕ → ℕ → Surroundings (Waiting L) → List ℕ → ℕ → Option Object → Stepped (State L)
+  asks_function head c e a out f (Some (object.Function code defaults keywords cells)) =
       report_began head c a out (begun_by m.scripts (scene a) (m.rules.bind a.world f (value.Obj e ∷ []) after.Plain))
+  asks_function head c e a out f other = Halt out (reported head (Gives value.None))
+
+  abbrev pub reports : List ℕ → ℕ → ℕ → Surroundings (Waiting L) → List ℕ → Option Value → Stepped (State L)
+  reports head c e a out (Some (value.Obj f)) = asks_function head c e a out f (slice_get a.world.heap f)
   reports head c e a out other = Halt out (reported head (Gives value.None))
 
   abbrev pub uncaught : ℕ → ℕ → Surroundings (Waiting L) → List ℕ → Stepped (State L)

@@ -1,5 +1,5 @@
 -- Blocks run as their rows do, with all that they call and resume.
-use Rattle.std.proofs.Common.{◌≡◌, ℕ, zero, suc, ◌<◌, List, [], ◌∷◌, ◌++◌, Option, Some, None, Bool, true, false, option_map, if◌then◌else◌, refl, sym, ap, ◌∙◌, subst, arith, append-nil}
+use Rattle.std.proofs.Common.{◌≡◌, ◌≢◌, ℕ, zero, suc, ◌<◌, List, [], ◌∷◌, ◌++◌, Option, Some, None, Bool, true, false, option_map, if◌then◌else◌, refl, sym, ap, ◌∙◌, subst, arith, append-nil}
 use Rattle.nu_run.specs.declared.End.TheVariants as end
 use Rattle.nu_run.specs.Runs as runs
 use Rattle.nu_run.specs.Steps.{More}
@@ -9,10 +9,10 @@ use Rattle.nu_value.specs.declared.value.Value.TheVariants as value
 use Rattle.op_rules.specs.declared.end.After.{After}
 use Rattle.op_rules.specs.declared.op.Op.{Op}
 use Rattle.nu_calls.specs.Surroundings.{Surroundings, scene, with_scene, kept_at, with_kept}
-use Rattle.nu_rows.specs.Rows.{Next, Leave, Raised, Return, Stopped, Undefined, Step, How, Send, Throw, Begin, Back, Res, Spent, Paused, Ended, Act, Instead, after, left_by, entered, interp, does}
+use Rattle.nu_rows.specs.Rows.{End, Next, Leave, Raised, Return, Stopped, Undefined, Step, How, Send, Throw, Start, Begin, Back, Res, Spent, Paused, Ended, Act, Instead, after, gone, left_by, entered, interp, does}
 use Rattle.nu_rows.specs.Words.{on_raised}
 use Rattle.nu_calls.specs.Ends.{Result, Gives, Raises, Stops, Unsaid, Begun, Over, Calls, Starts, Wakes, Began, begun_by, generator_paused, generator_ended, call_ended, inside}
-use Rattle.nu_calls.specs.Calls.{Pause, state_of, end_of, back_in, leave_call, leave_generator, enters, calls, starts, goes_on, entry, began, enlisted, unsaid}
+use Rattle.nu_calls.specs.Calls.{Pause, state_of, end_of, effect_of, back_in, given_back, leave_call, leave_generator, enters, calls, starts, goes_on, entry, began, enlisted, unsaid}
 use Rattle.node_tree.specs.Blocks as tree
 use Rattle.node_tree.specs.Nodes as node
 use Rattle.flow_code.specs.declared.statement.Line.{Line}
@@ -20,58 +20,65 @@ use Rattle.flow_code.specs.declared.statement.Line.TheVariants.{Do}
 use Rattle.flow_code.specs.declared.statement.Statement.TheVariants as flat
 use Rattle.flow_code.specs.Machine as machine
 use Rattle.flow_code.specs.Run.{find}
-use Rattle.flow_lower.proofs.Points.{Lay, lay, code_of, Point, none, points, top, Owns}
+use Rattle.flow_lower.specs.Lower.{body_lines}
+use Rattle.flow_lower.proofs.Labels.{Fails}
+use Rattle.flow_lower.proofs.Points.{Lay, lay, Point, none, top, body_points, Owns}
 use Rattle.flow_lower.proofs.Ran.{NodeState, Machine, Stack, Waiting, flat_frame, waiting, kept_map, Code, mm, lang, row_of, keeps, fw, fw_kept, mstep, C, G, Reaches, reaches_step, reaches_after, reaches_goes, reaches_comes, reaches_is, Halted, halted_after, halted_by, SpentAt, go_at, fail_at, resume_at, PausedAt, Ran}
 use Rattle.flow_lower.proofs.Parts.{run_rows}
+
+-- what holds where nothing is said, and of the return of each value but Unset, holds of how a body ended for what began it
+pub back_cases : (P : End → Type 0) (v : Value) → P Undefined → (v ≢ value.Unset → P (Return v)) → P (given_back (Return v))
+back_cases P value.Unset u h = u
+back_cases P value.None u h = h (λ e. cc)
+back_cases P (value.Bool b) u h = h (λ e. cc)
+back_cases P (value.Int z) u h = h (λ e. cc)
+back_cases P (value.Str text) u h = h (λ e. cc)
+back_cases P (value.Obj n) u h = h (λ e. cc)
 
 -- the code of functions stands for their blocks: their labels and fail label stand where they have to, and what a
 -- function was handed comes to its first registers
 pub record Stands (q : Code) : Type 0 where
-  pub owns : (c : ℕ) → q.has c ≡ true → Owns (q.lines c) (q.blocks c) 1 top
-  pub fails : (c : ℕ) → q.has c ≡ true → find 0 (q.lines c) ≡ Do flat.Fail ∷ []
+  pub owns : (c : ℕ) → q.has c ≡ true → Owns (q.lines c) (q.blocks c) 1 (top (q.blocks c))
+  pub fails : (c : ℕ) → q.has c ≡ true → Fails (q.blocks c) (find 0 (q.lines c))
   pub absent : (c : ℕ) → q.has c ≡ false → q.blocks c ≡ tree.Stop
   pub is_there : (c : ℕ) (given cells : List Value) (f : node.Frame) → q.frames c given cells ≡ Some f → q.has c ≡ true
-  pub opens : (c : ℕ) (given cells : List Value) (f : node.Frame) → q.frames c given cells ≡ Some f → (stack : Stack) (a : Surroundings Waiting) (out : List ℕ) → C q (machine.at c (q.lines c) (machine.fresh c given cells) None stack a out) (machine.at c (code_of (q.blocks c) 1 top) (flat_frame f) None stack a out)
+  pub opens : (c : ℕ) (given cells : List Value) (f : node.Frame) → q.frames c given cells ≡ Some f → (stack : Stack) (a : Surroundings Waiting) (out : List ℕ) → C q (machine.at c (q.lines c) (machine.fresh c given cells) None stack a out) (machine.at c (body_lines (q.blocks c)) (flat_frame f) None stack a out)
 
 module _ (q : Code) (stands : Stands q) where
   -- what the machine does from a state, where a whole body has an outcome
   abbrev pub BodyAt : ℕ → ℕ → Stack → List ℕ → Machine → Res NodeState → Type 0
   BodyAt m c stack base s (Spent o) = SpentAt q m s (base ++ o)
-  BodyAt m c stack base s (Paused o t v p) = PausedAt q c stack s t v (points (q.blocks c) 1 top p) (base ++ o)
+  BodyAt m c stack base s (Paused o t v p) = PausedAt q c stack s t v (body_points (q.blocks c) p) (base ++ o)
   BodyAt m c stack base s (Ended o t (Next v)) = Reaches q s (machine.body_ended (mm q) t.frame.code stack (fw q t.around) (base ++ o) (Next value.None))
   BodyAt m c stack base s (Ended o t (Raised e)) = Reaches q s (machine.body_ended (mm q) t.frame.code stack (fw q t.around) (base ++ o) (Raised e))
-  BodyAt m c stack base s (Ended o t (Return v)) = Reaches q s (machine.body_ended (mm q) t.frame.code stack (fw q t.around) (base ++ o) (Return v))
+  BodyAt m c stack base s (Ended o t (Return v)) = v ≢ value.Unset → Reaches q s (machine.body_ended (mm q) t.frame.code stack (fw q t.around) (base ++ o) (Return v))
   BodyAt m c stack base s (Ended o t (Stopped kind)) = Halted q s (base ++ o) (end.Stopped kind)
   BodyAt m c stack base s (Ended o t (Leave n)) = Unit {0}
   BodyAt m c stack base s (Ended o t Undefined) = Unit {0}
 
-  pub body_of_ran : (m c : ℕ) (stack : Stack) (base : List ℕ) (s : Machine) (x : Res NodeState) → find 0 (q.lines c) ≡ Do flat.Fail ∷ [] → Ran q c stack m top (points (q.blocks c) 1 top) base s x → BodyAt m c stack base s x
+  -- a block without statements raises nothing
+  pub raised_fails : (b : tree.Block) (behind : List Line) → Fails b behind → (start : Start) (t : NodeState) (n : ℕ) (o : List ℕ) (u : NodeState) (e : ℕ) → does (row_of q) (node.block_row (lang q) b) start t n ≡ Ended o u (Raised e) → behind ≡ Do flat.Fail ∷ []
+  raised_fails tree.Stop behind h Begin t n o u e r = let z : Ended [] t (Next value.None) ≡ Ended o u (Raised e) = r in cc
+  raised_fails tree.Stop behind h (Back p how) t n o u e r = let z : Ended [] t Undefined ≡ Ended o u (Raised e) = r in cc
+  raised_fails (tree.Follow x y) behind h start t n o u e r = h
+
+  pub body_of_ran : (m c : ℕ) (stack : Stack) (base : List ℕ) (s : Machine) (x : Res NodeState) → ((o : List ℕ) (u : NodeState) (e : ℕ) → x ≡ Ended o u (Raised e) → find 0 (q.lines c) ≡ Do flat.Fail ∷ []) → Ran q c stack m (top (q.blocks c)) (body_points (q.blocks c)) base s x → BodyAt m c stack base s x
   body_of_ran m c stack base s (Spent o) e h = h
   body_of_ran m c stack base s (Paused o t v p) e h = h
   body_of_ran m c stack base s (Ended o t (Next v)) e h = reaches_after q s _ _ h (reaches_step q _ _ refl)
   body_of_ran m c stack base s (Ended o t (Raised x)) e h =
-      reaches_after q s _ _ h (reaches_step q _ _ (ap (λ ls. mstep q (machine.at c ls (flat_frame t.frame) (Some x) stack (fw q t.around) (base ++ o))) e))
+      reaches_after q s _ _ h (reaches_step q _ _ (ap (λ ls. mstep q (machine.at c ls (flat_frame t.frame) (Some x) stack (fw q t.around) (base ++ o))) (e o t x refl)))
   body_of_ran m c stack base s (Ended o t (Return v)) e h = h
   body_of_ran m c stack base s (Ended o t (Stopped kind)) e h = h
   body_of_ran m c stack base s (Ended o t (Leave n)) e h = tt
   body_of_ran m c stack base s (Ended o t Undefined) e h = tt
 
-  pub body_from : (m c : ℕ) (stack : Stack) (base : List ℕ) (s s' : Machine) (x : Res NodeState) → C q s s' → BodyAt m c stack base s' x → BodyAt m c stack base s x
-  body_from m c stack base s s' (Spent o) p h = let b = p.by h.0 in (b.0, omega (arith, b.1, h.1), b.2 ∙ h.2)
-  body_from m c stack base s s' (Paused o t v x) p h = reaches_after q s s' _ p h
-  body_from m c stack base s s' (Ended o t (Next v)) p h = reaches_after q s s' _ p h
-  body_from m c stack base s s' (Ended o t (Raised e)) p h = reaches_after q s s' _ p h
-  body_from m c stack base s s' (Ended o t (Return v)) p h = reaches_after q s s' _ p h
-  body_from m c stack base s s' (Ended o t (Stopped kind)) p h = halted_after q s s' (base ++ o) (end.Stopped kind) p h
-  body_from m c stack base s s' (Ended o t (Leave n)) p h = tt
-  body_from m c stack base s s' (Ended o t Undefined) p h = tt
-
   abbrev pub body_row : ℕ → node.R
   body_row c = node.block_row (lang q) (q.blocks c)
 
   pub record BodyRuns (m c : ℕ) (stack : Stack) : Type 0 where
-    pub begins : (t : NodeState) (base : List ℕ) → BodyAt m c stack base (go_at q c stack (code_of (q.blocks c) 1 top) t base) (does (row_of q) (body_row c) Begin t m)
-    pub goes_on : (p : List Step) (how : How) (t : NodeState) (base : List ℕ) → BodyAt m c stack base (resume_at q c stack (points (q.blocks c) 1 top p) how t base) (does (row_of q) (body_row c) (Back p how) t m)
+    pub begins : (t : NodeState) (base : List ℕ) → BodyAt m c stack base (go_at q c stack (body_lines (q.blocks c)) t base) (does (row_of q) (body_row c) Begin t m)
+    pub goes_on : (p : List Step) (how : How) (t : NodeState) (base : List ℕ) → BodyAt m c stack base (resume_at q c stack (body_points (q.blocks c) p) how t base) (does (row_of q) (body_row c) (Back p how) t m)
 
   -- the bodies of all codes run within each smaller bound, whoever began them
   abbrev pub BodiesRun : ℕ → Type 0
@@ -103,25 +110,36 @@ module _ (q : Code) (stands : Stands q) where
     settled_body n base o s b r h =
         settled n base (o ++ []) s b r (subst (λ u. Reaches q s (machine.settles (mm q) w stack (fw q b) (base ++ u) r)) (sym (append-nil o)) h)
 
-    -- a called body
-    body_called : (m c : ℕ) (after' : After) (base : List ℕ) (s s1 : Machine) (x : Res NodeState) → G q s s1 → BodyAt m c (machine.Called w after' stack) base s1 x → Wrote (suc m) base s (left_by x (leave_call (lang q) f after'))
+    -- a called body that ended so, for its caller
+    abbrev called : After → List ℕ → NodeState → End → Res NodeState
+    called aft o u e = gone o (effect_of (state_of f u.around) [] (call_ended q.rules aft (back_in (lang q) f u.around) e))
+
+    call_settled : (m : ℕ) (aft : After) (base o : List ℕ) (s s1 : Machine) (u : NodeState) (e : End) → G q s s1 → Reaches q s1 (machine.body_ended (mm q) u.frame.code (machine.Called w aft stack) (fw q u.around) (base ++ o) e) → Wrote (suc m) base s (called aft o u e)
+    call_settled m aft base o s s1 u e g h =
+        let x = call_ended q.rules aft (back_in (lang q) f u.around) e in
+        settled_body (suc m) base o s (with_scene u.around x.scene) x.result (reaches_after q s s1 _ (goes_some _ _ _ _ g) h)
+
+    body_called : (m c : ℕ) (aft : After) (base : List ℕ) (s s1 : Machine) (x : Res NodeState) → G q s s1 → BodyAt m c (machine.Called w aft stack) base s1 x → Wrote (suc m) base s (left_by x (leave_call (lang q) f aft))
     body_called m c aft base s s1 (Spent o) g h = let b = g.by h.0 in (b.0, omega (arith, b.1, h.1), b.2 ∙ h.2)
     body_called m c aft base s s1 (Paused o u v p) g h = tt
-    body_called m c aft base s s1 (Ended o u (Next v)) g h =
-        let x = call_ended q.rules aft (back_in (lang q) f u.around) (Next v) in
-        settled_body (suc m) base o s (with_scene u.around x.scene) x.result (reaches_after q s s1 _ (goes_some _ _ _ _ g) h)
-    body_called m c aft base s s1 (Ended o u (Raised e)) g h =
-        let x = call_ended q.rules aft (back_in (lang q) f u.around) (Raised e) in
-        settled_body (suc m) base o s (with_scene u.around x.scene) x.result (reaches_after q s s1 _ (goes_some _ _ _ _ g) h)
+    body_called m c aft base s s1 (Ended o u (Next v)) g h = call_settled m aft base o s s1 u (Next value.None) g h
+    body_called m c aft base s s1 (Ended o u (Raised e)) g h = call_settled m aft base o s s1 u (Raised e) g h
     body_called m c aft base s s1 (Ended o u (Return v)) g h =
-        let x = call_ended q.rules aft (back_in (lang q) f u.around) (Return v) in
-        settled_body (suc m) base o s (with_scene u.around x.scene) x.result (reaches_after q s s1 _ (goes_some _ _ _ _ g) h)
+        back_cases (λ e. Wrote (suc m) base s (called aft o u e)) v tt (λ d. call_settled m aft base o s s1 u (Return v) g (h d))
     body_called m c aft base s s1 (Ended o u (Stopped kind)) g h =
         subst (λ z. Halted q s (base ++ z) (end.Stopped kind)) (sym (nils (o ++ []) ∙ append-nil o)) (halted_after q s s1 _ _ (goes_some _ _ _ _ g) h)
     body_called m c aft base s s1 (Ended o u (Leave n)) g h = tt
     body_called m c aft base s s1 (Ended o u Undefined) g h = tt
 
-    -- a resumed generator's body
+    -- a resumed generator's body that ended so, for what resumed it
+    abbrev resumed : ℕ → Bool → List ℕ → NodeState → End → Res NodeState
+    resumed g closing o u e = gone o (effect_of (state_of f u.around) [] (generator_ended (back_in (lang q) f u.around) g closing e))
+
+    resume_settled : (m c g : ℕ) (closing : Bool) (base o : List ℕ) (s s1 : Machine) (u : NodeState) (e : End) → G q s s1 → Reaches q s1 (machine.body_ended (mm q) u.frame.code (machine.Resumed w g c closing stack) (fw q u.around) (base ++ o) e) → Wrote (suc m) base s (resumed g closing o u e)
+    resume_settled m c g closing base o s s1 u e z h =
+        let x = generator_ended (back_in (lang q) f u.around) g closing e in
+        settled_body (suc m) base o s (with_scene u.around x.scene) x.result (reaches_after q s s1 _ (goes_some _ _ _ _ z) h)
+
     body_resumed : (m c g : ℕ) (closing : Bool) (base : List ℕ) (s s1 : Machine) (x : Res NodeState) → G q s s1 → BodyAt m c (machine.Resumed w g c closing stack) base s1 x → Wrote (suc m) base s (left_by x (leave_generator (lang q) f g c closing))
     body_resumed m c g closing base s s1 (Spent o) z h = let b = z.by h.0 in (b.0, omega (arith, b.1, h.1), b.2 ∙ h.2)
     body_resumed m c g closing base s s1 (Paused o u v p) z h =
@@ -129,15 +147,10 @@ module _ (q : Code) (stands : Stands q) where
         let x = generator_paused (back_in (lang q) f u.around) g closing v in
         settled_body (suc m) base o s (with_scene (with_kept u.around g (Some k)) x.scene) x.result
         (subst (λ y. Reaches q s (machine.settles (mm q) w stack (with_scene y x.scene) (base ++ o) x.result)) (fw_kept q u.around g (Some k)) (reaches_after q s s1 _ (goes_some _ _ _ _ z) h))
-    body_resumed m c g closing base s s1 (Ended o u (Next v)) z h =
-        let x = generator_ended (back_in (lang q) f u.around) g closing (Next v) in
-        settled_body (suc m) base o s (with_scene u.around x.scene) x.result (reaches_after q s s1 _ (goes_some _ _ _ _ z) h)
-    body_resumed m c g closing base s s1 (Ended o u (Raised e)) z h =
-        let x = generator_ended (back_in (lang q) f u.around) g closing (Raised e) in
-        settled_body (suc m) base o s (with_scene u.around x.scene) x.result (reaches_after q s s1 _ (goes_some _ _ _ _ z) h)
+    body_resumed m c g closing base s s1 (Ended o u (Next v)) z h = resume_settled m c g closing base o s s1 u (Next value.None) z h
+    body_resumed m c g closing base s s1 (Ended o u (Raised e)) z h = resume_settled m c g closing base o s s1 u (Raised e) z h
     body_resumed m c g closing base s s1 (Ended o u (Return v)) z h =
-        let x = generator_ended (back_in (lang q) f u.around) g closing (Return v) in
-        settled_body (suc m) base o s (with_scene u.around x.scene) x.result (reaches_after q s s1 _ (goes_some _ _ _ _ z) h)
+        back_cases (λ e. Wrote (suc m) base s (resumed g closing o u e)) v tt (λ d. resume_settled m c g closing base o s s1 u (Return v) z (h d))
     body_resumed m c g closing base s s1 (Ended o u (Stopped kind)) z h =
         subst (λ y. Halted q s (base ++ y) (end.Stopped kind)) (sym (nils (o ++ []) ∙ append-nil o)) (halted_after q s s1 _ _ (goes_some _ _ _ _ z) h)
     body_resumed m c g closing base s s1 (Ended o u (Leave n)) z h = tt
@@ -170,7 +183,7 @@ module _ (q : Code) (stands : Stands q) where
         let st = machine.Resumed w g c false stack in
         body_resumed m c g false base s _ _ (goes_comes _ _ _ _ _ (reaches_goes q s _ (entering s base c given cells st b has h)) (stands.opens c given cells x e st _ base)) ((bodies m (omega arith) c has st).begins (enters (lang q) b c x) base)
 
-    resumes_is : (k : Pause node.Frame) (st : Stack) (b : Surroundings (Pause node.Frame)) (base : List ℕ) (how : How) → machine.settles (mm q) (keeps q k) st (fw q b) base (machine.told (mm q) how) ≡ More (resume_at q k.code st (points (q.blocks k.code) 1 top k.place) how (state_of k.frame b) base)
+    resumes_is : (k : Pause node.Frame) (st : Stack) (b : Surroundings (Pause node.Frame)) (base : List ℕ) (how : How) → machine.settles (mm q) (keeps q k) st (fw q b) base (machine.told (mm q) how) ≡ More (resume_at q k.code st (body_points (q.blocks k.code) k.place) how (state_of k.frame b) base)
     resumes_is k st b base (Send v) = refl
     resumes_is k st b base (Throw e) = refl
 
@@ -183,7 +196,7 @@ module _ (q : Code) (stands : Stands q) where
     absent_ran m blk e base s p how t g c closing =
         subst (λ z. Wrote (suc m) base s (left_by (does (row_of q) (node.block_row (lang q) z) (Back p how) t m) (leave_generator (lang q) f g c closing))) (sym e) tt
 
-    woken_ran : (m : ℕ) → BodiesRun (suc m) → (base : List ℕ) (s : Machine) (b : Surroundings (Pause node.Frame)) (g : ℕ) (how : How) (closing : Bool) (k : Pause node.Frame) (x : Bool) → q.has k.code ≡ x → Reaches q s (More (resume_at q k.code (machine.Resumed w g k.code closing stack) (points (q.blocks k.code) 1 top k.place) how (state_of k.frame b) base)) → Wrote (suc m) base s (left_by (does (row_of q) (body_row k.code) (Back k.place how) (state_of k.frame b) m) (leave_generator (lang q) f g k.code closing))
+    woken_ran : (m : ℕ) → BodiesRun (suc m) → (base : List ℕ) (s : Machine) (b : Surroundings (Pause node.Frame)) (g : ℕ) (how : How) (closing : Bool) (k : Pause node.Frame) (x : Bool) → q.has k.code ≡ x → Reaches q s (More (resume_at q k.code (machine.Resumed w g k.code closing stack) (body_points (q.blocks k.code) k.place) how (state_of k.frame b) base)) → Wrote (suc m) base s (left_by (does (row_of q) (body_row k.code) (Back k.place how) (state_of k.frame b) m) (leave_generator (lang q) f g k.code closing))
     woken_ran m bodies base s b g how closing k true e h =
         body_resumed m k.code g closing base s _ _ (reaches_goes q s _ h) ((bodies m (omega arith) k.code e _).goes_on k.place how (state_of k.frame b) base)
     woken_ran m bodies base s b g how closing k false e h =
@@ -195,7 +208,7 @@ module _ (q : Code) (stands : Stands q) where
         let b' = with_scene (with_kept b g None) (inside q.rules q.scripts (scene b) k.code) in
         let st = machine.Resumed w g k.code closing stack in
         let r = subst (λ y. Reaches q s (machine.settles (mm q) (keeps q k) st (with_scene y (inside q.rules q.scripts (scene b) k.code)) base (machine.told (mm q) how))) (fw_kept q b g None) h in
-        spent_now base s _ (reaches_is q s _ _ (resumes_is k st b' base how) r) (resumed_out k.code st (points (q.blocks k.code) 1 top k.place) how (state_of k.frame b') base)
+        spent_now base s _ (reaches_is q s _ _ (resumes_is k st b' base how) r) (resumed_out k.code st (body_points (q.blocks k.code) k.place) how (state_of k.frame b') base)
     goes_ran (suc m) bodies base s b g how closing (Some k) h =
         let b' = with_scene (with_kept b g None) (inside q.rules q.scripts (scene b) k.code) in
         let st = machine.Resumed w g k.code closing stack in

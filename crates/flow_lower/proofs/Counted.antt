@@ -10,7 +10,7 @@ use Rattle.flow_code.specs.declared.statement.Line.TheVariants.{Label, Do}
 use Rattle.flow_code.specs.declared.statement.Statement.{Statement}
 use Rattle.flow_code.specs.declared.statement.Statement.TheVariants as flat
 use Rattle.flow_code.specs.Labels.{stands, Lead}
-use Rattle.flow_lower.specs.Lower.{form_labels, labels, exit, exit_of, form_lines, block_lines, body_lines, copies, code_lines, last_lines}
+use Rattle.flow_lower.specs.Lower.{form_labels, labels, exit, exit_of, form_lines, block_lines, body_lines, copies, function_lines, code_lines, last_lines}
 
 abbrev pub one_at : ℕ → ℕ → ℕ
 one_at l k = if nat_eq l k then 1 else 0
@@ -131,27 +131,28 @@ stands_copies : (l : ℕ) (x : ℕ → ℕ → Statement) (n to i : ℕ) (tail :
 stands_copies l x zero to i tail = refl
 stands_copies l x (suc n) to i tail = stands_copies l x n (suc to) (suc i) tail
 
--- each label of a function, from 0 on, stands once, and no other
-stands_body : (b : tree.Block) (l : ℕ) → stands l (body_lines b) ≡ inside l 0 (1 + labels b)
-stands_body b l =
-    let e : stands l (body_lines b) ≡ inside l 1 (labels b) + (one_at l 0 + 0) = stands_block b l 1 0 [] last_lines in
+-- each label of a function whose block has a statement, from 0 on, stands once, and no other; of another none stands
+stands_handed : (params free : ℕ) (b : tree.Block) (l : ℕ) → stands l (function_lines params free b) ≡ stands l (body_lines b)
+stands_handed params free b l = stands_copies l flat.Parameter params 0 0 _ ∙ stands_copies l flat.Free free params 0 _
+
+stands_follow : (params free : ℕ) (x : tree.Form) (r : tree.Block) (l : ℕ) → stands l (function_lines params free (tree.Follow x r)) ≡ inside l 0 (1 + labels (tree.Follow x r))
+stands_follow params free x r l =
+    let b = tree.Follow x r in
+    let e : stands l (body_lines b) ≡ inside l 1 (labels b) + (one_at l 0 + 0) = stands_block b l 1 0 [] (last_lines b) in
     let s : inside l 0 (suc (labels b)) ≡ one_at l 0 + inside l 1 (labels b) = refl in
     let n : suc (labels b) ≡ 1 + labels b = omega arith in
-    omega (arith, e, s) ∙ ap (inside l 0) n
+    stands_handed params free b l ∙ omega (arith, e, s) ∙ ap (inside l 0) n
 
-pub stands_code : (c : NodeCode) (l : ℕ) → stands l (code_lines c) ≡ inside l 0 (1 + labels (block c.body))
-stands_code c l =
-    stands_copies l flat.Parameter (length c.params) 0 0 _ ∙ stands_copies l flat.Free c.free (length c.params) 0 _ ∙ stands_body (block c.body) l
+stands_most : (params free : ℕ) (b : tree.Block) (l : ℕ) → stands l (function_lines params free b) ≤ inside l 0 (1 + labels b)
+stands_most params free tree.Stop l = omega (arith, stands_handed params free tree.Stop l)
+stands_most params free (tree.Follow x r) l = omega (arith, stands_follow params free x r l)
 
 pub stands_once : (c : NodeCode) (l : ℕ) → stands l (code_lines c) ≤ 1
-stands_once c l = omega (arith, stands_code c l, inside_most l 0 (1 + labels (block c.body)))
+stands_once c l = omega (arith, stands_most (length c.params) c.free (block c.body) l, inside_most l 0 (1 + labels (block c.body)))
 
 pub stands_below : (c : NodeCode) (l : ℕ) → 0 < stands l (code_lines c) → l < 1 + labels (block c.body)
 stands_below c l h =
-    let r : l < 0 + (1 + labels (block c.body)) = inside_is l 0 (1 + labels (block c.body)) (omega (arith, h, stands_code c l)) in omega (arith, r)
-
-pub stands_there : (c : NodeCode) (l : ℕ) → l < 1 + labels (block c.body) → 0 < stands l (code_lines c)
-stands_there c l h = omega (arith, stands_code c l, inside_has l 0 (1 + labels (block c.body)) (omega arith) (omega (arith, h)))
+    let r : l < 0 + (1 + labels (block c.body)) = inside_is l 0 (1 + labels (block c.body)) (omega (arith, h, stands_most (length c.params) c.free (block c.body) l)) in omega (arith, r)
 
 -- where the labels of a statement or a block, its fail label, the exits around and 0 are such ones, so is each to which it
 -- leads
@@ -193,6 +194,7 @@ module _ (P : ℕ → Type 0) (z : P 0) where
     lead_block (tree.Follow x r) k fail out tail f o h m =
         lead_form x k fail out _ f o (λ j p q. h j p (omega arith)) (lead_block r (k + form_labels x) fail out tail f o (λ j p q. h j (omega arith) (omega arith)) m)
 
+module _ (P : ℕ → Type 0) where
   lead_parameters : (n to i : ℕ) (tail : List Line) → Lead P tail → Lead P (copies flat.Parameter n to i tail)
   lead_parameters zero to i tail h = h
   lead_parameters (suc n) to i tail h = (tt, lead_parameters n (suc to) (suc i) tail h)
@@ -201,10 +203,15 @@ module _ (P : ℕ → Type 0) (z : P 0) where
   lead_free zero to i tail h = h
   lead_free (suc n) to i tail h = (tt, lead_free n (suc to) (suc i) tail h)
 
-  lead_code : (c : NodeCode) → ((j : ℕ) → j < 1 + labels (block c.body) → P j) → Lead P (code_lines c)
-  lead_code c h =
-      lead_parameters (length c.params) 0 0 _ (lead_free c.free (length c.params) 0 _ (lead_block (block c.body) 1 0 [] last_lines z tt (λ j p q. h j (omega arith)) (tt, (tt, tt))))
-
 -- each label to which the code leads stands in it
+there_function : (params free : ℕ) (b : tree.Block) → Lead (λ l. 0 < stands l (function_lines params free b)) (function_lines params free b)
+there_function params free tree.Stop =
+    lead_parameters _ params 0 0 _ (lead_free _ free params 0 _ (tt, tt))
+there_function params free (tree.Follow x r) =
+    let b = tree.Follow x r in
+    let there : (l : ℕ) → l < 1 + labels b → 0 < stands l (function_lines params free b) = λ l h. omega (arith, stands_follow params free x r l, inside_has l 0 (1 + labels b) (omega arith) (omega (arith, h))) in
+    lead_parameters _ params 0 0 _ (lead_free _ free params 0 _
+    (lead_block (λ l. 0 < stands l (function_lines params free b)) (there 0 (omega arith)) b 1 0 [] (last_lines b) (there 0 (omega arith)) tt (λ j p q. there j (omega arith)) (tt, (tt, tt))))
+
 pub there_code : (c : NodeCode) → Lead (λ l. 0 < stands l (code_lines c)) (code_lines c)
-there_code c = lead_code (λ l. 0 < stands l (code_lines c)) (stands_there c 0 (omega arith)) c (stands_there c)
+there_code c = there_function (length c.params) c.free (block c.body)

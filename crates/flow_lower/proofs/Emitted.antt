@@ -1,6 +1,6 @@
 -- What `lower_node` appends are the lines of its node.
 use Rattle.std.proofs.lemmas.List.{length-append}
-use Rattle.std.proofs.Common.{◌<◌, ◌-◌, drop, append-nil, subst, ◌≡◌, ℕ, zero, suc, ◌+◌, ◌≤◌, List, [], ◌∷◌, ◌++◌, length, get_or, refl, sym, ap, ◌∙◌, arith, append_assoc}
+use Rattle.std.proofs.Common.{◌<◌, ◌-◌, drop, append-nil, subst, ◌≡◌, ◌≢◌, ℕ, zero, suc, ◌+◌, ◌≤◌, List, [], ◌∷◌, ◌++◌, length, get_or, refl, sym, ap, ◌∙◌, arith, append_assoc}
 use Rattle.node_tree.specs.declared.node.Node.{Node, If, Loop, Catch}
 use Rattle.node_tree.specs.declared.node.Operand.{Operand}
 use Rattle.node_tree.specs.Tree.{form, block}
@@ -12,7 +12,7 @@ use Rattle.flow_code.specs.declared.statement.Statement.{Statement}
 use Rattle.flow_code.specs.declared.statement.Line.TheVariants.{Label, Do}
 use Rattle.flow_code.specs.declared.statement.Statement.TheVariants as flat
 use Rattle.flow_lower.specs.Correct.{LowersCode, LowersEach}
-use Rattle.flow_lower.specs.Lower.{form_labels, labels, operand_of, exit, exit_of, form_lines, block_lines, copies, function_lines}
+use Rattle.flow_lower.specs.Lower.{form_labels, labels, operand_of, exit, exit_of, form_lines, block_lines, copies, fail_lines, last_lines, function_lines}
 
 exit_at : (xs : List ℕ) (k : ℕ) → get_or xs k 0 ≡ exit xs k
 exit_at [] k = refl
@@ -90,16 +90,20 @@ drawn_loop k k1 k2 k3 xs e1 e2 e3 = omega (arith, ap form_labels (form_loop xs))
 pub drawn_catch : (t k k1 k2 k3 k4 : ℕ) (xs hs : List Node) → k1 ≡ k + 1 → k2 ≡ k1 + 1 → k3 ≡ k2 + labels (block xs) → k4 ≡ k3 + labels (block hs) → k4 ≡ k + form_labels (form (Catch t xs hs))
 drawn_catch t k k1 k2 k3 k4 xs hs e1 e2 e3 e4 = omega (arith, ap form_labels (form_catch t xs hs))
 
+-- what `put_fail` appends where there are nodes
+pub emit_fail : (fail : ℕ) (xs : List Node) (o1 o2 o3 : List Line) → fail ≡ 0 → length xs ≢ 0 → o2 ≡ o1 ++ Label fail ∷ [] → o3 ≡ o2 ++ Do flat.Fail ∷ [] → o3 ≡ o1 ++ fail_lines (block xs)
+emit_fail fail [] o1 o2 o3 f h p2 p3 = absurd (h refl)
+emit_fail fail (x ∷ xs) o1 o2 o3 f h p2 p3 = p3 ∙ put_then o1 o2 (Label fail) (Do flat.Fail ∷ []) p2 ∙ ap (λ l. o1 ++ Label l ∷ Do flat.Fail ∷ []) f
+
 -- what `lower_code` puts together
-pub emit_function : (params free k0 k1 fail : ℕ) (ex : List ℕ) (xs : List Node) (o1 o2 o3 o4 o5 o6 : List Line) → k0 ≡ 0 → fail ≡ k0 → k1 ≡ k0 + 1 → ex ≡ [] → ((tail : List Line) → o1 ++ tail ≡ copies flat.Parameter params 0 0 tail) → length o1 ≡ params → ((tail : List Line) → o2 ++ tail ≡ o1 ++ copies flat.Free free (length o1) 0 tail) → ((tail : List Line) → o3 ++ tail ≡ o2 ++ block_lines (block xs) k1 fail ex tail) → o4 ≡ o3 ++ Do flat.End ∷ [] → o5 ≡ o4 ++ Label fail ∷ [] → o6 ≡ o5 ++ Do flat.Fail ∷ [] → o6 ≡ function_lines params free (block xs)
-emit_function params free k0 k1 fail ex xs o1 o2 o3 o4 o5 o6 z f e x h1 len h2 h3 p4 p5 p6 =
+pub emit_function : (params free k0 k1 fail : ℕ) (ex : List ℕ) (xs : List Node) (o1 o2 o3 o4 o5 : List Line) → k0 ≡ 0 → fail ≡ k0 → k1 ≡ k0 + 1 → ex ≡ [] → ((tail : List Line) → o1 ++ tail ≡ copies flat.Parameter params 0 0 tail) → length o1 ≡ params → ((tail : List Line) → o2 ++ tail ≡ o1 ++ copies flat.Free free (length o1) 0 tail) → ((tail : List Line) → o3 ++ tail ≡ o2 ++ block_lines (block xs) k1 fail ex tail) → o4 ≡ o3 ++ Do flat.End ∷ [] → o5 ≡ o4 ++ fail_lines (block xs) → o5 ≡ function_lines params free (block xs)
+emit_function params free k0 k1 fail ex xs o1 o2 o3 o4 o5 z f e x h1 len h2 h3 p4 p5 =
     let f' : fail ≡ 0 = omega arith in
     let e' : k1 ≡ 1 = omega arith in
-    let b = block_lines (block xs) k1 fail ex (Do flat.End ∷ Label fail ∷ Do flat.Fail ∷ []) in
-    p6
-    ∙ put_then o4 o5 (Label fail) (Do flat.Fail ∷ []) p5
-    ∙ put_then o3 o4 (Do flat.End) (Label fail ∷ Do flat.Fail ∷ []) p4
-    ∙ h3 (Do flat.End ∷ Label fail ∷ Do flat.Fail ∷ [])
+    let b = block_lines (block xs) k1 fail ex (last_lines (block xs)) in
+    p5
+    ∙ put_then o3 o4 (Do flat.End) (fail_lines (block xs)) p4
+    ∙ h3 (last_lines (block xs))
     ∙ h2 b
     ∙ h1 (copies flat.Free free (length o1) 0 b)
     ∙ rw (len, x, f', e') refl

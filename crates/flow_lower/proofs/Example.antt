@@ -23,7 +23,7 @@ use Rattle.node_tree.specs.declared.node.Operand as operand_type
 use Rattle.node_tree.specs.declared.node.Operand.TheVariants as operand
 use Rattle.node_tree.specs.declared.script.NodeCode.{NodeCode}
 use Rattle.node_tree.specs.declared.script.NodeScript.{NodeScript}
-use Rattle.node_tree.specs.Blocks.{Block, Stop, Follow, Do, Call, Yield, If, Loop, Leave, Catch, Raise}
+use Rattle.node_tree.specs.Blocks.{Block, Stop, Follow, Do, Call, Yield, If, Loop, Leave, Catch, Return, Raise, Unset}
 use Rattle.node_tree.specs.Nodes.{L, block_row, item_row}
 use Rattle.node_tree.specs.Run as node
 use Rattle.flow_code.specs.declared.function.FlatFunction.{FlatFunction}
@@ -103,6 +103,20 @@ branches_node = refl
 
 branches_flat : flat branches ≡ Ended (codes "yes\nand yes\n") end.Done
 branches_flat = refl
+
+-- nothing is said of a body that gives back Unset
+abbrev gives_unset : Block
+gives_unset = Follow (Unset 0) (Follow (Return (operand.Temp 0)) Stop)
+
+unset_node : node_run gives_unset ≡ Ended [] (end.Undefined 0 0)
+unset_node = refl
+
+unset_flat : flat gives_unset ≡ Ended [] (end.Undefined 0 0)
+unset_flat = refl
+
+-- the flat code of no statements
+empty_flat : flat Stop ≡ Ended [] end.Done
+empty_flat = refl
 
 -- rules of which some are not those of the table: `iter` makes a generator, `next` resumes it, `manager` throws into it, and
 -- `push` prints

@@ -1,5 +1,5 @@
 -- The lines of every statement and block run as its row does; and so do the bodies of all codes.
-use Rattle.std.proofs.Common.{◌≡◌, ℕ, zero, suc, ◌+◌, List, [], ◌∷◌, ◌++◌, map, Option, Some, None, true, slice_get, refl, sym, ap, ◌∙◌, subst, arith, append-nil}
+use Rattle.std.proofs.Common.{◌≡◌, ◌≢◌, ℕ, zero, suc, ◌+◌, List, [], ◌∷◌, ◌++◌, map, Option, Some, None, true, slice_get, refl, sym, ap, ◌∙◌, subst, arith, append-nil}
 use Rattle.nu_run.specs.Steps.{Stepped, More}
 use Rattle.nu_run.proofs.Runs.{comes_refl, goes_some}
 use Rattle.nu_value.specs.declared.object.Object.{Object}
@@ -9,7 +9,7 @@ use Rattle.nu_value.specs.declared.value.Value.TheVariants as value
 use Rattle.op_rules.specs.declared.op.Op.{Op}
 use Rattle.op_rules.specs.declared.op.Op.TheVariants as op
 use Rattle.op_rules.specs.Foldable.{value_of}
-use Rattle.nu_rows.specs.Rows.{Next, Leave, Raised, Return, Stopped, Undefined, Step, First, Second, How, Send, Throw, Back, Effect, Act, does}
+use Rattle.nu_rows.specs.Rows.{Next, Leave, Raised, Return, Stopped, Undefined, Step, First, Second, How, Send, Throw, Begin, Back, Effect, Act, does}
 use Rattle.nu_rows.specs.Words.{ends_with}
 use Rattle.nu_calls.specs.Calls.{enlisted, yields}
 use Rattle.node_tree.specs.declared.node.Argument.{Argument}
@@ -28,7 +28,7 @@ use Rattle.flow_lower.proofs.Points.{Lay, lay, code_of, Point, none, read_points
 use Rattle.flow_lower.proofs.Ran.{NodeState, Machine, Stack, flat_frame, waiting, Code, mm, lang, row_of, fw, mstep, C, Reaches, reaches_step, one, go_at, fail_at, resume_at, EndedAt, Ran, Runs}
 use Rattle.flow_lower.proofs.Mute.{Mute, act_mute, sub_mute, then_mute, next_mute, raised_mute, stored_mute}
 use Rattle.flow_lower.proofs.Parts.{mute_ran, mute_runs, followed_runs, held_same, reading_begins, reading_back, mark_comes, goto_goes, tail_runs, if_runs, loop_runs, catch_runs}
-use Rattle.flow_lower.proofs.Bodies.{Stands, body_of_ran, BodyRuns, BodiesRun, operates_ran}
+use Rattle.flow_lower.proofs.Bodies.{Stands, raised_fails, body_of_ran, BodyRuns, BodiesRun, operates_ran}
 
 -- what both sides read in arguments is the same
 argument_same : (kc : ℕ) (stack : Stack) (q : Code) (f : node.Frame) (x : Argument) → machine.argument_value (flat_frame f) (argument_of x) ≡ node.argument_value f x
@@ -122,10 +122,23 @@ module _ (q : Code) (stands : Stands q) (kc : ℕ) (stack : Stack) where
     goes_on = λ p how t base. mute_ran q kc stack n a (read_points (λ v. none)) base _ _ (reading_mute x f) p how t;
   }
 
-  return_runs : (n : ℕ) (x : Operand) (mid : List Line) (a : Lay) → Runs q kc stack n (node.reading x (λ v. ends_with (Return v))) (Do (flat.Give (operand_of x)) ∷ mid) (lay a.fail a.exits mid) (read_points (λ v. none))
+  -- a value is given back, and flat code uses it
+  uses : (v : Value) (other : Stepped Machine) (go : Value → Stepped Machine) → v ≢ value.Unset → machine.using (Some v) other go ≡ go v
+  uses value.Unset other go d = absurd (d refl)
+  uses value.None other go d = refl
+  uses (value.Bool b) other go d = refl
+  uses (value.Int z) other go d = refl
+  uses (value.Str text) other go d = refl
+  uses (value.Obj n) other go d = refl
+
+  given_ran : (mid : List Line) (a : Lay) (t : NodeState) (base : List ℕ) (s : Machine) (x : Option Value) → mstep q s ≡ machine.using x (machine.undefined base) (λ v. machine.body_ended (mm q) t.frame.code stack (fw q t.around) base (Return v)) → EndedAt q kc stack (lay a.fail a.exits mid) s t (node.given x) (base ++ [])
+  given_ran mid a t base s None e = tt
+  given_ran mid a t base s (Some v) e =
+      λ d. subst (λ z. Reaches q s (machine.body_ended (mm q) t.frame.code stack (fw q t.around) z (Return v))) (sym (append-nil base)) (reaches_step q s _ (e ∙ uses v _ _ d))
+
+  return_runs : (n : ℕ) (x : Operand) (mid : List Line) (a : Lay) → Runs q kc stack n (Act (λ s. record { out = []; state = s; end = node.given (node.held s.frame x) })) (Do (flat.Give (operand_of x)) ∷ mid) (lay a.fail a.exits mid) none
   return_runs n x mid a =
-      reading_runs n x (λ v s. record { out = []; state = s; end = Return v }) (Do (flat.Give (operand_of x)) ∷ mid) (lay a.fail a.exits mid)
-      (λ t base v u. subst (λ z. Reaches q (go_at q kc stack (Do (flat.Give (operand_of x)) ∷ mid) t base) (machine.body_ended (mm q) t.frame.code stack (fw q t.around) z (Return v))) (sym (append-nil base)) (reaches_step q _ _ (u _ _)))
+      act_runs n _ _ mid a (λ t base. given_ran mid a t base _ (node.held t.frame x) (ap (λ y. machine.using y (machine.undefined base) (λ v. machine.body_ended (mm q) t.frame.code stack (fw q t.around) base (Return v))) (held_same q kc stack x t.frame)))
 
   -- an exception is raised as it stands
   pending_ran : (a : Lay) (ls mid : List Line) (t : NodeState) (base : List ℕ) (s : Machine) (e : ℕ) (x : Option Object) → mstep q s ≡ machine.pending_exception (mm q) (go_at q kc stack ls t base) a.fail e x → EndedAt q kc stack (lay a.fail a.exits mid) s t (node.exception_end e x) (base ++ [])
@@ -189,11 +202,11 @@ module _ (q : Code) (stands : Stands q) where
   -- a body runs, where the bodies that it begins do
   pub body_runs : (m c : ℕ) → q.has c ≡ true → (stack : Stack) → BodiesRun q stands m → BodyRuns q stands m c stack
   body_runs m c has stack bodies =
-      let r = block_runs q stands c stack (q.blocks c) 1 top (stands.owns c has) m bodies in
-      let e = stands.fails c has in
+      let r = block_runs q stands c stack (q.blocks c) 1 (top (q.blocks c)) (stands.owns c has) m bodies in
+      let fails = raised_fails q stands (q.blocks c) _ (stands.fails c has) in
       record {
-        begins = λ t base. body_of_ran q stands m c stack base _ _ e (r.begins t base);
-        goes_on = λ p how t base. body_of_ran q stands m c stack base _ _ e (r.goes_on p how t base);
+        begins = λ t base. body_of_ran q stands m c stack base _ _ (fails Begin t m) (r.begins t base);
+        goes_on = λ p how t base. body_of_ran q stands m c stack base _ _ (fails (Back p how) t m) (r.goes_on p how t base);
       }
 
   -- all bodies, within each bound

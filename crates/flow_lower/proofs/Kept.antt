@@ -44,7 +44,8 @@ record Agrees (w : Statement → ℕ) (v : tree.Form → ℕ) : Type 0 where
   caught : (to : ℕ) → w (flat.Caught to) ≡ 0
   parameter : (to i : ℕ) → w (flat.Parameter to i) ≡ 0
   free : (to i : ℕ) → w (flat.Free to i) ≡ 0
-  last : code.total w last_lines ≡ 0
+  end : w flat.End ≡ 0
+  fail : w flat.Fail ≡ 0
 
 module _ (w : Statement → ℕ) (v : tree.Form → ℕ) (same : Agrees w v) where
   one : (x y : ℕ) (mid : List Line) → x ≡ y → x + code.total w mid ≡ y + code.total w mid
@@ -94,10 +95,14 @@ module _ (w : Statement → ℕ) (v : tree.Form → ℕ) (same : Agrees w v) whe
   total_copies x h (suc n) to i tail =
       ap (λ m. m + code.total w (copies x n (suc to) (suc i) tail)) (h to i) ∙ none_more _ ∙ total_copies x h n (suc to) (suc i) tail
 
+  total_last : (b : tree.Block) → code.total w (last_lines b) ≡ 0
+  total_last tree.Stop = omega (arith, same.end)
+  total_last (tree.Follow x r) = omega (arith, same.end, same.fail)
+
   total_code : (c : NodeCode) → code.total w (code_lines c) ≡ node.total v (block c.body)
   total_code c =
       total_copies flat.Parameter same.parameter (length c.params) 0 0 _ ∙ total_copies flat.Free same.free c.free (length c.params) 0 _
-      ∙ omega (arith, total_block (block c.body) 1 0 [] last_lines, same.last)
+      ∙ omega (arith, total_block (block c.body) 1 0 [] (last_lines (block c.body)), total_last (block c.body))
 
 same_operations : (test : Op → List Argument → Bool) → Agrees (code.statement_operations test) (node.form_operations (λ o args. test o (map argument_of args)))
 same_operations test = record {
@@ -117,7 +122,8 @@ same_operations test = record {
   caught = λ to. refl;
   parameter = λ to i. refl;
   free = λ to i. refl;
-  last = refl;
+  end = refl;
+  fail = refl;
 }
 
 same_yields : Agrees code.statement_yields node.form_yields
@@ -138,7 +144,8 @@ same_yields = record {
   caught = λ to. refl;
   parameter = λ to i. refl;
   free = λ to i. refl;
-  last = refl;
+  end = refl;
+  fail = refl;
 }
 
 module _ (test : Const → Bool) where
@@ -172,7 +179,8 @@ module _ (test : Const → Bool) where
     caught = λ to. refl;
     parameter = λ to i. refl;
     free = λ to i. refl;
-    last = refl;
+    end = refl;
+    fail = refl;
   }
 
 keeps : (c : NodeCode) (f : FlatFunction) → LowersCode c f → Keeps c f

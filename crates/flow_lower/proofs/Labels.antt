@@ -47,5 +47,12 @@ pub skip_copies : (l : ℕ) (x : ℕ → ℕ → Statement) (n to i : ℕ) (tail
 skip_copies l x zero to i tail = refl
 skip_copies l x (suc n) to i tail = skip_copies l x n (suc to) (suc i) tail
 
-pub body_fail : (b : tree.Block) → find 0 (body_lines b) ≡ Do flat.Fail ∷ []
-body_fail b = skip b 0 1 0 [] last_lines (λ j u v e. absurd (omega arith)) ∙ find_same 0 _
+-- behind the fail label of a block that has a statement its exception leaves
+abbrev pub Fails : tree.Block → List Line → Type 0
+Fails tree.Stop behind = Unit {0}
+Fails (tree.Follow x r) behind = behind ≡ Do flat.Fail ∷ []
+
+pub body_fail : (b : tree.Block) → Fails b (find 0 (body_lines b))
+body_fail tree.Stop = tt
+body_fail (tree.Follow x r) =
+    skip (tree.Follow x r) 0 1 0 [] (last_lines (tree.Follow x r)) (λ j u v e. absurd (omega arith)) ∙ find_same 0 _

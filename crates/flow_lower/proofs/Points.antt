@@ -92,7 +92,7 @@ abbrev mutual
   form_points (tree.Loop b) k m = points b (k + 2) (loop_body k m)
   form_points (tree.Leave levels) k m = none
   form_points (tree.Catch to b h) k m = catch_points (points b (k + 2) (catch_body k to b h m)) (points h (k + 2 + labels b) (if_yes k m))
-  form_points (tree.Return a) k m = read_points (λ v. none)
+  form_points (tree.Return a) k m = none
   form_points (tree.Raise a) k m = read_points (λ v. none)
   form_points (tree.Unset to) k m = none
 
@@ -101,8 +101,12 @@ abbrev mutual
   points (tree.Follow x r) k a = then_points (form_points x k (first_lay x r k a)) (points r (k + form_labels x) a)
 
 -- the layout of the block of a whole body
-abbrev pub top : Lay
-top = lay 0 [] last_lines
+abbrev pub top : tree.Block → Lay
+top b = lay 0 [] (last_lines b)
+
+-- where a whole body goes on
+abbrev pub body_points : tree.Block → Points
+body_points b = points b 1 (top b)
 
 -- the code has a block's labels where the block's code has them
 pub record Owns (code : List Line) (b : tree.Block) (k : ℕ) (a : Lay) : Type 0 where

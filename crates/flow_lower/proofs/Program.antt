@@ -1,22 +1,24 @@
 -- The flat code of a program does what the program's nodes do.
-use Rattle.std.proofs.Common.{◌≡◌, ℕ, zero, suc, ◌≤◌, List, [], ◌∷◌, ◌++◌, length, Option, Some, None, Bool, true, false, nat_lt, if◌then◌else◌, refl, sym, ap, ◌∙◌, subst, arith, append_assoc, append-nil}
+use Rattle.std.proofs.Common.{◌≡◌, ℕ, zero, suc, ◌≤◌, List, [], ◌∷◌, ◌++◌, length, Option, Some, None, Bool, true, false, slice_get, nat_lt, if◌then◌else◌, refl, sym, ap, ◌∙◌, subst, arith, append_assoc, append-nil}
 use Rattle.nu_run.specs.declared.End as run_end
 use Rattle.nu_run.specs.declared.End.TheVariants as end
 use Rattle.nu_run.specs.Runs as runs
 use Rattle.nu_run.specs.Steps.{Stepped, More, Halt, on_step}
 use Rattle.nu_run.proofs.Runs.{Tracks, goes_comes, goes_some}
+use Rattle.nu_value.specs.declared.object.Object.{Object}
+use Rattle.nu_value.specs.declared.object.Object.TheVariants as object
 use Rattle.nu_value.specs.declared.value.Value.{Value}
 use Rattle.nu_value.specs.declared.value.Value.TheVariants as value
 use Rattle.op_rules.specs.declared.end.After.{After}
 use Rattle.op_rules.specs.declared.end.After.TheVariants as after_kind
 use Rattle.nu_calls.specs.Surroundings.{Surroundings, scene, with_scene, with_frames}
-use Rattle.nu_rows.specs.Rows.{End, Next, Leave, Raised, Return, Stopped, Undefined, Step, First, Second, Begin, Res, Spent, Paused, Ended, Row, Act, Then, Sub, Entry, Instead, after, shift, left_by, entered, interp, does}
+use Rattle.nu_rows.specs.Rows.{End, Next, Leave, Raised, Return, Stopped, Undefined, Step, First, Second, Begin, Res, Spent, Paused, Ended, Row, Act, Then, Sub, Entry, Instead, after, shift, gone, left_by, entered, interp, does}
 use Rattle.nu_rows.specs.Rows as rows
 use Rattle.nu_rows.specs.Words.{ends_with, on_next}
 use Rattle.nu_rows.specs.Driver.{told}
 use Rattle.nu_calls.specs.Ends.{Result, Gives, Raises, Stops, Unsaid, Begun, Over, Calls, Starts, Wakes, begun_by, call_ended, inside}
-use Rattle.nu_calls.specs.Calls.{Pause, state_of, in_scene, end_of, back_in, leave_call, enters, calls}
-use Rattle.nu_calls.specs.Scripts.{Program, report_function, report_entry, asks_report, reported, uncaught, module_begun, module_ended, module_row, script_row, shows, start_state, program_run}
+use Rattle.nu_calls.specs.Calls.{Pause, state_of, in_scene, end_of, effect_of, back_in, given_back, leave_call, enters, calls}
+use Rattle.nu_calls.specs.Scripts.{Program, report_function, report_entry, asks_function, asks_report, reported, uncaught, module_begun, module_ended, module_row, script_row, shows, start_state, program_run}
 use Rattle.nu_calls.specs.Traceback.{head_text}
 use Rattle.node_tree.specs.Nodes as node
 use Rattle.node_tree.specs.Run.{blank}
@@ -24,9 +26,9 @@ use Rattle.flow_code.specs.declared.statement.Line.{Line}
 use Rattle.flow_code.specs.Machine as machine
 use Rattle.flow_code.specs.Run.{machine_run}
 use Rattle.flow_code.proofs.Grows.{machine_same}
-use Rattle.flow_lower.proofs.Points.{code_of, top}
+use Rattle.flow_lower.specs.Lower.{body_lines}
 use Rattle.flow_lower.proofs.Ran.{NodeState, Machine, Stack, Code, mm, lang, row_of, fw, exec, C, G, Reaches, reaches_after, reaches_goes, go_at}
-use Rattle.flow_lower.proofs.Bodies.{Stands, BodyAt, body_row}
+use Rattle.flow_lower.proofs.Bodies.{back_cases, Stands, BodyAt, body_row}
 use Rattle.flow_lower.proofs.Forms.{body_runs, bodies_run}
 
 module _ (q : Code) (stands : Stands q) where
@@ -92,18 +94,19 @@ module _ (q : Code) (stands : Stands q) where
   nils base o = ap (λ z. base ++ z) (sym (append-nil (o ++ []) ∙ append-nil o))
 
   -- the body of the report
+  report_settled : (m : ℕ) (head : List ℕ) (f : node.Frame) (aft : After) (base o : List ℕ) (s s1 : Machine) (u : NodeState) (e : End) → G q s s1 → Reaches q s1 (machine.body_ended (mm q) u.frame.code (machine.Base (machine.Report head f.code aft)) (fw q u.around) (base ++ o) e) → MainAt (suc m) base (λ j. exec q j s) (last (suc m) head (gone o (effect_of (state_of f u.around) [] (call_ended q.rules aft (back_in (lang q) f u.around) e))))
+  report_settled m head f aft base o s s1 u e g h =
+      let x = call_ended q.rules aft (back_in (lang q) f u.around) e in
+      λ d. halted_end s _ _ _ _ (nils base o) (report_shows head (state_of f (with_scene u.around x.scene)) x.result) (reaches_after q s s1 _ (goes_some _ _ _ _ g) h)
+
   report_body : (m : ℕ) (head : List ℕ) (c : ℕ) (f : node.Frame) (aft : After) (base : List ℕ) (s s1 : Machine) (x : Res NodeState) → G q s s1 → BodyAt q stands m c (machine.Base (machine.Report head f.code aft)) base s1 x → MainAt (suc m) base (λ j. exec q j s) (last (suc m) head (left_by x (leave_call (lang q) f aft)))
   report_body m head c f aft base s s1 (Spent o) g h = let b = g.by h.0 in (b.0, omega (arith, b.1, h.1), b.2 ∙ h.2)
   report_body m head c f aft base s s1 (Paused o u v p) g h = λ d. absurd d
-  report_body m head c f aft base s s1 (Ended o u (Next v)) g h =
-      let x = call_ended q.rules aft (back_in (lang q) f u.around) (Next v) in
-      λ d. halted_end s _ _ _ _ (nils base o) (report_shows head (state_of f (with_scene u.around x.scene)) x.result) (reaches_after q s s1 _ (goes_some _ _ _ _ g) h)
-  report_body m head c f aft base s s1 (Ended o u (Raised e)) g h =
-      let x = call_ended q.rules aft (back_in (lang q) f u.around) (Raised e) in
-      λ d. halted_end s _ _ _ _ (nils base o) (report_shows head (state_of f (with_scene u.around x.scene)) x.result) (reaches_after q s s1 _ (goes_some _ _ _ _ g) h)
+  report_body m head c f aft base s s1 (Ended o u (Next v)) g h = report_settled m head f aft base o s s1 u (Next value.None) g h
+  report_body m head c f aft base s s1 (Ended o u (Raised e)) g h = report_settled m head f aft base o s s1 u (Raised e) g h
   report_body m head c f aft base s s1 (Ended o u (Return v)) g h =
-      let x = call_ended q.rules aft (back_in (lang q) f u.around) (Return v) in
-      λ d. halted_end s _ _ _ _ (nils base o) (report_shows head (state_of f (with_scene u.around x.scene)) x.result) (reaches_after q s s1 _ (goes_some _ _ _ _ g) h)
+      back_cases (λ e. MainAt (suc m) base (λ j. exec q j s) (last (suc m) head (gone o (effect_of (state_of f u.around) [] (call_ended q.rules aft (back_in (lang q) f u.around) e))))) v (λ d. absurd d)
+      (λ d. report_settled m head f aft base o s s1 u (Return v) g (h d))
   report_body m head c f aft base s s1 (Ended o u (Stopped kind)) g h =
       λ d. let b = g.by h.0 in (b.0, b.2 ∙ h.1 ∙ ap (λ z. runs.Ended z (end.Stopped kind)) (nils base o))
   report_body m head c f aft base s s1 (Ended o u (Leave k)) g h = λ d. absurd d
@@ -133,6 +136,13 @@ module _ (q : Code) (stands : Stands q) where
   no_report : (n : ℕ) (head : List ℕ) (u : NodeState) (base : List ℕ) (s : Machine) → Reaches q s (Halt base (machine.reported (mm q) head (Gives value.None))) → MainAt n base (λ j. exec q j s) (last n head (Ended [] u (Next value.None)))
   no_report n head u base s h = λ d. halted_end s _ _ _ _ (sym (append-nil base)) refl h
 
+  asks_ran : (n : ℕ) (head : List ℕ) (e : ℕ) (u : NodeState) (base : List ℕ) (s : Machine) (f : ℕ) (x : Option Object) → Reaches q s (machine.asks_function (mm q) head u.frame.code e (fw q u.around) base f x) → MainAt n base (λ j. exec q j s) (last n head (entered (rows.run (row_of q) n) (asks_function (lang q) u e f x)))
+  asks_ran n head e u base s f None h = no_report n head u base s h
+  asks_ran n head e u base s f (Some (object.Function code defaults keywords cells)) h =
+      let b = begun_by q.scripts (scene u.around) (q.rules.bind u.around.world f (value.Obj e ∷ []) after_kind.Plain) in
+      report_begins n head (in_scene u b.scene) base s b.begun h
+  asks_ran n head e u base s f (Some other) h = no_report n head u base s h
+
   report_ran : (n : ℕ) (head : List ℕ) (e : ℕ) (u : NodeState) (base : List ℕ) (s : Machine) (f : Option Value) → Reaches q s (machine.reports (mm q) head u.frame.code e (fw q u.around) base f) → MainAt n base (λ j. exec q j s) (last n head (entered (rows.run (row_of q) n) (asks_report (lang q) u e f)))
   report_ran n head e u base s None h = no_report n head u base s h
   report_ran n head e u base s (Some value.Unset) h = no_report n head u base s h
@@ -140,9 +150,7 @@ module _ (q : Code) (stands : Stands q) where
   report_ran n head e u base s (Some (value.Bool b)) h = no_report n head u base s h
   report_ran n head e u base s (Some (value.Int z)) h = no_report n head u base s h
   report_ran n head e u base s (Some (value.Str text)) h = no_report n head u base s h
-  report_ran n head e u base s (Some (value.Obj f)) h =
-      let b = begun_by q.scripts (scene u.around) (q.rules.bind u.around.world f (value.Obj e ∷ []) after_kind.Plain) in
-      report_begins n head (in_scene u b.scene) base s b.begun h
+  report_ran n head e u base s (Some (value.Obj f)) h = asks_ran n head e u base s f (slice_get u.around.world.heap f) h
 
   uncaught_ran : (n e : ℕ) (u : NodeState) (base : List ℕ) (s : Machine) → Reaches q s (machine.uncaught (mm q) u.frame.code e (fw q u.around) base) → MainAt n base (λ j. exec q j s) (does (row_of q) (uncaught (lang q) q.file e) Begin u n)
   uncaught_ran n e u base s h =
@@ -159,7 +167,11 @@ module _ (q : Code) (stands : Stands q) where
     ended_ran c base s u o (Leave k) h = λ d. absurd d
     ended_ran c base s u o Undefined h = λ d. absurd d
 
-    body_ran : (c : ℕ) (base : List ℕ) (s : Machine) (x : Res NodeState) → BodyAt q stands n c (machine.Base bottom) base s x → MainAt n base (λ j. exec q j s) (after x (λ e u. interp (rows.run (row_of q) n) (module_ended (lang q) q.file next e) Begin u))
+    -- what follows a body's end
+    abbrev module_left : End → NodeState → Res NodeState
+    module_left e u = interp (rows.run (row_of q) n) (module_ended (lang q) q.file next (given_back e)) Begin u
+
+    body_ran : (c : ℕ) (base : List ℕ) (s : Machine) (x : Res NodeState) → BodyAt q stands n c (machine.Base bottom) base s x → MainAt n base (λ j. exec q j s) (after x module_left)
     body_ran c base s (Spent o) h = h
     body_ran c base s (Paused o u v p) h = tt
     body_ran c base s (Ended o u (Next v)) h =
@@ -167,12 +179,13 @@ module _ (q : Code) (stands : Stands q) where
     body_ran c base s (Ended o u (Raised e)) h =
         ended_ran c base s u o (Raised e) (subst (λ z. Reaches q s z) (is u.frame.code (fw q u.around) (base ++ o) (Raised e)) h)
     body_ran c base s (Ended o u (Return v)) h =
-        ended_ran c base s u o (Return v) (subst (λ z. Reaches q s z) (is u.frame.code (fw q u.around) (base ++ o) (Return v)) h)
+        back_cases (λ e. MainAt n base (λ j. exec q j s) (shift o (Second (Return v)) (does (row_of q) (module_ended (lang q) q.file next e) Begin u n))) v (λ d. absurd d)
+        (λ d. ended_ran c base s u o (Return v) (subst (λ z. Reaches q s z) (is u.frame.code (fw q u.around) (base ++ o) (Return v)) (h d)))
     body_ran c base s (Ended o u (Stopped kind)) h = λ d. (h.0, h.1 ∙ ap (λ z. runs.Ended (base ++ z) (end.Stopped kind)) (sym (append-nil o)))
     body_ran c base s (Ended o u (Leave k)) h = λ d. absurd d
     body_ran c base s (Ended o u Undefined) h = λ d. absurd d
 
-    begun_ran : (c : ℕ) (u : NodeState) (base : List ℕ) (E : ℕ → runs.Run) (fr : Option node.Frame) → q.frames c [] [] ≡ fr → Comes_to E (machine.enters (mm q) c [] [] (machine.Base bottom) (fw q (with_scene u.around (with_frames (scene u.around) 0))) base) → MainAt n base E (after (after (Ended (module_begun (lang q) c u fr).out (module_begun (lang q) c u fr).state (module_begun (lang q) c u fr).end) (λ e t. interp (rows.run (row_of q) n) (on_next (λ v. body_row q stands c) e) Begin t)) (λ e t. interp (rows.run (row_of q) n) (module_ended (lang q) q.file next e) Begin t))
+    begun_ran : (c : ℕ) (u : NodeState) (base : List ℕ) (E : ℕ → runs.Run) (fr : Option node.Frame) → q.frames c [] [] ≡ fr → Comes_to E (machine.enters (mm q) c [] [] (machine.Base bottom) (fw q (with_scene u.around (with_frames (scene u.around) 0))) base) → MainAt n base E (after (after (Ended (module_begun (lang q) c u fr).out (module_begun (lang q) c u fr).state (module_begun (lang q) c u fr).end) (λ e t. interp (rows.run (row_of q) n) (on_next (λ v. body_row q stands c) e) Begin t)) module_left)
     begun_ran c u base E None e h = λ d. absurd d
     begun_ran c u base E (Some f) e h =
         let has = stands.is_there c [] [] f e in
@@ -181,8 +194,8 @@ module _ (q : Code) (stands : Stands q) where
         let t = enters (lang q) b c f in
         let start = machine.at c (q.lines c) (machine.fresh c [] []) None st (with_scene (fw q b) (inside q.rules q.scripts (scene (fw q b)) c)) base in
         let h1 : Comes_to E (More start) = subst (λ y. Comes_to E (if y then More start else machine.undefined base)) has h in
-        main_step n base (Second (Next value.None)) E (does (row_of q) (body_row q stands c) Begin t n) (λ e t. interp (rows.run (row_of q) n) (module_ended (lang q) q.file next e) Begin t)
-        (main_from n base E _ _ (to_after E start (go_at q c st (code_of (q.blocks c) 1 top) t base) h1 (stands.opens c [] [] f e st _ base))
+        main_step n base (Second (Next value.None)) E (does (row_of q) (body_row q stands c) Begin t n) module_left
+        (main_from n base E _ _ (to_after E start (go_at q c st (body_lines (q.blocks c)) t base) h1 (stands.opens c [] [] f e st _ base))
         (body_ran c base _ _ ((body_runs q stands n c has st (bodies_run q stands n)).begins t base)))
 
     module_ran : (c : ℕ) (u : NodeState) (base : List ℕ) (E : ℕ → runs.Run) → Comes_to E (machine.enters (mm q) c [] [] (machine.Base bottom) (fw q (with_scene u.around (with_frames (scene u.around) 0))) base) → MainAt n base E (does (row_of q) (module_row prog q.file c next) Begin u n)

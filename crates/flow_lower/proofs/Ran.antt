@@ -1,5 +1,5 @@
 -- What the flat machine does where the row of a block has an outcome.
-use Rattle.std.proofs.Common.{◌≡◌, ℕ, zero, suc, ◌<◌, ◌≤◌, List, [], ◌∷◌, ◌++◌, Option, Some, None, Bool, option_map, refl, ap, ◌∙◌, subst, arith, append_assoc}
+use Rattle.std.proofs.Common.{◌≡◌, ◌≢◌, ℕ, zero, suc, ◌<◌, ◌≤◌, List, [], ◌∷◌, ◌++◌, Option, Some, None, Bool, option_map, refl, ap, ◌∙◌, subst, arith, append_assoc}
 use Rattle.nu_run.specs.declared.End as run_end
 use Rattle.nu_run.specs.declared.End.TheVariants as end
 use Rattle.nu_run.specs.Runs as runs
@@ -18,7 +18,7 @@ use Rattle.flow_code.specs.declared.statement.Line.{Line}
 use Rattle.flow_code.specs.Machine as machine
 use Rattle.flow_code.specs.Run.{find, with_lines}
 use Rattle.flow_lower.specs.Lower.{exit}
-use Rattle.flow_lower.proofs.Points.{Lay, lay, Point, Points, points, top}
+use Rattle.flow_lower.proofs.Points.{Lay, lay, Point, Points, body_points}
 
 abbrev pub NodeState : Type 0
 NodeState = State node.Frame
@@ -78,7 +78,7 @@ module _ (q : Code) where
 
   -- what a paused generator of the nodes keeps, as flat code does
   abbrev pub keeps : Pause node.Frame → Waiting
-  keeps k = waiting k.code k.frame (points (q.blocks k.code) 1 top k.place)
+  keeps k = waiting k.code k.frame (body_points (q.blocks k.code) k.place)
 
   -- surroundings of the nodes as those of the flat code: a place is where it stands in the code
   abbrev pub fw : Surroundings (Pause node.Frame) → Surroundings Waiting
@@ -153,11 +153,12 @@ module _ (q : Code) where
     abbrev pub PausedAt : Machine → NodeState → Value → Point → List ℕ → Type 0
     PausedAt s t v pt out = Reaches s (machine.paused mm (waiting kc t.frame pt) v stack (fw t.around) out)
 
+    -- nothing is said of a body that gives back Unset
     abbrev pub EndedAt : Lay → Machine → NodeState → End → List ℕ → Type 0
     EndedAt a s t (Next v) out = C s (go_at a.tail t out)
     EndedAt a s t (Leave k) out = C s (go_at (find (exit a.exits k) code) t out)
     EndedAt a s t (Raised e) out = C s (fail_at a.fail t e out)
-    EndedAt a s t (Return v) out = Reaches s (machine.body_ended mm t.frame.code stack (fw t.around) out (Return v))
+    EndedAt a s t (Return v) out = v ≢ value.Unset → Reaches s (machine.body_ended mm t.frame.code stack (fw t.around) out (Return v))
     EndedAt a s t (Stopped kind) out = Halted s out (end.Stopped kind)
     EndedAt a s t Undefined out = Unit {0}
 
@@ -173,7 +174,7 @@ module _ (q : Code) where
     ended_from a s s' u (Next v) out p r = comes_trans _ _ _ _ _ p r
     ended_from a s s' u (Leave k) out p r = comes_trans _ _ _ _ _ p r
     ended_from a s s' u (Raised e) out p r = comes_trans _ _ _ _ _ p r
-    ended_from a s s' u (Return v) out p r = reaches_after s s' _ p r
+    ended_from a s s' u (Return v) out p r = λ d. reaches_after s s' _ p (r d)
     ended_from a s s' u (Stopped kind) out p r = halted_after s s' out (end.Stopped kind) p r
     ended_from a s s' u Undefined out p r = tt
 

@@ -15,14 +15,13 @@ use Rattle.node_tree.specs.Tree.{block, block_of, code_block}
 use Rattle.flow_code.specs.declared.function.FlatFunction.{FlatFunction}
 use Rattle.flow_code.specs.declared.function.FlatScript.{FlatScript}
 use Rattle.flow_code.specs.declared.statement.Line.{Line}
-use Rattle.flow_code.specs.declared.statement.Line.TheVariants.{Do}
 use Rattle.flow_code.specs.declared.statement.Statement.TheVariants as flat
 use Rattle.flow_code.specs.Machine as machine
 use Rattle.flow_code.specs.Run.{find, is_there, lines_of, header as flat_header, with_lines, machine_run, flat_run}
 use Rattle.flow_lower.specs.Lower.{body_lines, code_lines}
 use Rattle.flow_lower.specs.Correct.{LowersCode, LowersEach, Lowers, DoesTheSame}
-use Rattle.flow_lower.proofs.Labels.{skip_copies, body_fail}
-use Rattle.flow_lower.proofs.Points.{code_of, top, Owns}
+use Rattle.flow_lower.proofs.Labels.{skip_copies, Fails, body_fail}
+use Rattle.flow_lower.proofs.Points.{top, Owns}
 use Rattle.flow_lower.proofs.Ran.{Stack, Waiting, flat_frame, Code, mm, C}
 use Rattle.flow_lower.proofs.Bodies.{Stands}
 use Rattle.flow_lower.proofs.Opening.{opening}
@@ -76,18 +75,21 @@ module _ (rules : Rules) (script : NodeScript) (flat_script : FlatScript) (h : L
     frames = λ c given cells. begun_frame c given cells (code_at c);
   }
 
-  fails_at : (x : Option NodeCode) (f : Option FlatFunction) → AtBoth x f → is_there f ≡ true → find 0 (lines_of f) ≡ Do flat.Fail ∷ []
+  -- the labels of a function stand behind what copies what it was handed
+  behind : (x : NodeCode) (f : FlatFunction) → LowersCode x f → (l : ℕ) → find l f.body ≡ find l (body_lines (block x.body))
+  behind x f h l = ap (λ ls. find l ls) h.body ∙ skip_copies l flat.Parameter (length x.params) 0 0 _ ∙ skip_copies l flat.Free x.free (length x.params) 0 _
+
+  fails_at : (x : Option NodeCode) (f : Option FlatFunction) → AtBoth x f → is_there f ≡ true → Fails (block_of x) (find 0 (lines_of f))
   fails_at None None b e = cc
   fails_at None (Some f) b e = absurd b
   fails_at (Some x) None b e = absurd b
-  fails_at (Some x) (Some f) b e =
-      ap (λ ls. find 0 ls) b.body ∙ skip_copies 0 flat.Parameter (length x.params) 0 0 _ ∙ skip_copies 0 flat.Free x.free (length x.params) 0 _ ∙ body_fail (block x.body)
+  fails_at (Some x) (Some f) b e = subst (λ ls. Fails (block x.body) ls) (sym (behind x f b 0)) (body_fail (block x.body))
 
-  owns_at : (x : Option NodeCode) (f : Option FlatFunction) → AtBoth x f → is_there f ≡ true → Owns (lines_of f) (block_of x) 1 top
+  owns_at : (x : Option NodeCode) (f : Option FlatFunction) → AtBoth x f → is_there f ≡ true → Owns (lines_of f) (block_of x) 1 (top (block_of x))
   owns_at None None b e = cc
   owns_at None (Some f) b e = absurd b
   owns_at (Some x) None b e = absurd b
-  owns_at (Some x) (Some f) b e = record { by = λ l p r. ap (λ ls. find l ls) b.body ∙ skip_copies l flat.Parameter (length x.params) 0 0 _ ∙ skip_copies l flat.Free x.free (length x.params) 0 _ }
+  owns_at (Some x) (Some f) b e = record { by = λ l p r. behind x f b l }
 
   absent_at : (x : Option NodeCode) (f : Option FlatFunction) → AtBoth x f → is_there f ≡ false → block_of x ≡ tree.Stop
   absent_at None None b e = refl
@@ -102,7 +104,7 @@ module _ (rules : Rules) (script : NodeScript) (flat_script : FlatScript) (h : L
   there_at c given cells fr (Some x) (Some f) b e = refl
 
   abbrev Opens : ℕ → List Value → List Value → node.Frame → tree.Block → List Line → Type 0
-  Opens c given cells fr b ls = (stack : Stack) (a : Surroundings Waiting) (out : List ℕ) → C q (machine.at c ls (machine.fresh c given cells) None stack a out) (machine.at c (code_of b 1 top) (flat_frame fr) None stack a out)
+  Opens c given cells fr b ls = (stack : Stack) (a : Surroundings Waiting) (out : List ℕ) → C q (machine.at c ls (machine.fresh c given cells) None stack a out) (machine.at c (body_lines b) (flat_frame fr) None stack a out)
 
   opens_code : (c : ℕ) (given cells : List Value) (fr : node.Frame) (x : NodeCode) (y : Bool) → (nat_le (length x.params) (length given) && nat_le x.free (length cells)) ≡ y → (if y then Some (record { code = c; given = given; cells = cells; temps = slice_get (take (length x.params) given ++ take x.free cells) }) else None) ≡ Some fr → Opens c given cells fr (block x.body) (code_lines x)
   opens_code c given cells fr x false ey e stack a out = cc

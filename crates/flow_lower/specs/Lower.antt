@@ -82,9 +82,14 @@ abbrev mutual
   block_lines (tree.Follow x r) k fail exits tail =
       form_lines x k fail exits (block_lines r (k + form_labels x) fail exits tail)
 
+-- an exception leaves a function; it can where the block has a statement
+abbrev pub fail_lines : tree.Block → List Line
+fail_lines tree.Stop = []
+fail_lines (tree.Follow x r) = Label 0 ∷ Do flat.Fail ∷ []
+
 -- the lines behind a function's block: it gives None, or its exception leaves
-abbrev pub last_lines : List Line
-last_lines = Do flat.End ∷ Label 0 ∷ Do flat.Fail ∷ []
+abbrev pub last_lines : tree.Block → List Line
+last_lines b = Do flat.End ∷ fail_lines b
 
 -- so many statements, which copy what a function was handed, from number i on, to registers from `to` on
 abbrev pub copies : (ℕ → ℕ → Statement) → ℕ → ℕ → ℕ → List Line → List Line
@@ -93,7 +98,7 @@ copies x (suc n) to i tail = Do (x to i) ∷ copies x n (suc to) (suc i) tail
 
 -- the lines of a function: its parameters, its free cells, its block
 abbrev pub body_lines : tree.Block → List Line
-body_lines b = block_lines b 1 0 [] last_lines
+body_lines b = block_lines b 1 0 [] (last_lines b)
 
 abbrev pub function_lines : ℕ → ℕ → tree.Block → List Line
 function_lines params free b = copies flat.Parameter params 0 0 (copies flat.Free free params 0 (body_lines b))

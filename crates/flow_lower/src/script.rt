@@ -1,6 +1,7 @@
 //! The flat code of a script.
 
 ghost use Rattle.std.specs.Prelude.{◌≡◌, ◌+◌, [], ◌∷◌, ◌++◌, ℕ, List, IfOk, OnOk, length};
+ghost use Rattle.node_tree.specs.Tree.{block};
 ghost use Rattle.flow_code.specs.declared.statement.Line.{Line as Flat};
 ghost use Rattle.flow_code.specs.declared.statement.Statement.TheVariants as flat;
 ghost use Rattle.std.specs.List.{AllByRecursion};
@@ -8,13 +9,13 @@ ghost use Rattle.flow_code.specs.Labels.{LabelsThere};
 ghost use Rattle.flow_code.specs.WellFormed.{WellFormed};
 ghost use Rattle.flow_lower.specs.Correct.{Lowers, LowersCode, DoesTheSame};
 ghost use Rattle.flow_lower.specs.Kept.{KeepsEach};
-ghost use Rattle.flow_lower.specs.Lower.{copies};
+ghost use Rattle.flow_lower.specs.Lower.{copies, fail_lines};
 
 use crate::copies::share_shape;
 use crate::lowering::{fresh, lower_nodes, mark, put};
 use crate::registers::count_registers;
 use flow_code::{FlatFunction, FlatScript, Line, Statement};
-use node_tree::{NodeCode, NodeScript};
+use node_tree::{Node, NodeCode, NodeScript};
 use sqlite_items::Items;
 use std::alloc::{AllocError, Global};
 
@@ -50,17 +51,10 @@ fn lower_code(alloc: Global, code: &NodeCode) -> Result<FlatFunction, AllocError
     let mut labels = Vec::new(alloc);
     let mut exits = Vec::new(alloc);
     let fail = fresh(&mut labels)?;
-    lower_nodes(
-        alloc,
-        &mut out,
-        &mut labels,
-        code.body.as_slice(),
-        fail,
-        &mut exits,
-    )?;
+    let nodes = code.body.as_slice();
+    lower_nodes(alloc, &mut out, &mut labels, nodes, fail, &mut exits)?;
     put(&mut out, Statement::End)?;
-    mark(&mut out, fail)?;
-    put(&mut out, Statement::Fail)?;
+    put_fail(&mut out, fail, nodes)?;
     let registers = count_registers(&out)?;
     Ok(FlatFunction {
         scope: code.scope.share()?,
@@ -93,5 +87,18 @@ fn put_free(out: &mut Vec<Line>, count: u64) -> Result<(), AllocError>
         let to = out.len() as u64;
         put(out, Statement::Free { to, index })?;
     }
+    Ok(())
+}
+
+/// The lines behind the end of a function with these nodes: where there are some, an exception can leave it.
+fn put_fail(out: &mut Vec<Line>, fail: u64, nodes: &[Node]) -> Result<(), AllocError>
+    requires { fail ≡ 0 }
+    ensures { OnOk result (out.new.items ≡ out.old.items ++ fail_lines (block nodes.now)) }
+{
+    if nodes.is_empty() {
+        return Ok(());
+    }
+    mark(out, fail)?;
+    put(out, Statement::Fail)?;
     Ok(())
 }

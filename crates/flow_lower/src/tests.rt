@@ -12,7 +12,7 @@ use std::test::Fail;
 
 /// Trees: a word for each node; `[` opens a list of nodes, and `if`, `loop` and `catch` take those that were opened last.
 static TREES: [(&str, &str); 28] = [
-    ("", "0: end L0 fail"),
+    ("", "0: end"),
     ("constant", "1: r0=7 end L0 fail"),
     ("copy", "3: r1=r2 end L0 fail"),
     ("do", "4: r3=add(r0,True)!0 end L0 fail"),

@@ -1,2 +1,1 @@
 pub mod Redirected
-pub mod Returned

@@ -5,12 +5,10 @@ use Rattle.nu_value.specs.declared.object.Object.{Object}
 use Rattle.nu_value.specs.declared.object.Object.TheVariants as object
 use Rattle.nu_value.specs.declared.value.Value.{Value}
 use Rattle.nu_value.specs.declared.value.Value.TheVariants as value
-use Rattle.op_rules.specs.declared.constant.Const.{Const}
-use Rattle.op_rules.specs.declared.constant.Const.TheVariants as const
 use Rattle.op_rules.specs.declared.end.After.{After}
 use Rattle.op_rules.specs.declared.op.Op.{Op}
 use Rattle.op_rules.specs.declared.op.Op.TheVariants as op
-use Rattle.nu_rows.specs.Rows.{End, Next, Leave, Raised, Return, Stopped, Undefined, Step, First, Second, How, Send, Throw, Start, Begin, Back, Res, Spent, Paused, Ended, Effect, Act, Yld, Then, Sub, Left, AtPause, AtEnd, Entry, Into, Instead, shift, after, before, turned, left_by, entered, interp, run, does}
+use Rattle.nu_rows.specs.Rows.{End, Next, Leave, Raised, Return, Stopped, Undefined, Step, First, Second, How, Send, Throw, Start, Begin, Back, Res, Spent, Paused, Ended, Effect, Act, Yld, Then, Loop, Sub, Left, AtPause, AtEnd, Entry, Into, Instead, shift, after, before, turned, left_by, entered, interp, run, does}
 use Rattle.nu_rows.specs.Words.{ends_with, on_next, on_raised, choose}
 use Rattle.nu_calls.specs.Surroundings.{scene}
 use Rattle.nu_calls.specs.Ends.{Result, Gives, Raises, Stops, Unsaid, Begun, Over, Calls, Starts, Wakes, begun_by}
@@ -21,11 +19,11 @@ use Rattle.node_tree.specs.declared.node.Operand.{Operand}
 use Rattle.node_tree.specs.declared.node.Operand.TheVariants as operand
 use Rattle.node_tree.specs.Blocks as tree
 use Rattle.node_tree.specs.Nodes as nodes
-use Rattle.node_redirect.specs.Redirect.{outward, leaves_by, leaves, return_stores, leave_stores, redirect_form, redirect, ReturnsIn, ReturnsConstants}
+use Rattle.node_redirect.specs.Redirect.{outward, leaves_by, leaves, return_flags, return_stores, leave_stores, redirect_form, redirect}
 use Rattle.node_redirect.specs.Shown.{T, at_leave, nearest, shown_end, left_state, shown_state, shown, Exits, Redirected}
 
 -- an end that shows as itself
-abbrev pub IsStill : End → Type 0
+abbrev IsStill : End → Type 0
 IsStill (Leave j) = ⊥
 IsStill (Return v) = ⊥
 IsStill e = Unit {0}
@@ -117,7 +115,7 @@ module _ (l : nodes.L) (blocks : ℕ → tree.Block) (k : ℕ) where
       then_same : Same d (Then r K) (Then c D)
       then_same = record { same = from }
 
-    pub next_exits : (K : Value → nodes.R) (e : End) → Exits e → on_next K e ≡ ends_with e
+    next_exits : (K : Value → nodes.R) (e : End) → Exits e → on_next K e ≡ ends_with e
     next_exits K (Next v) x = absurd x
     next_exits K (Raised v) x = absurd x
     next_exits K (Leave v) x = refl
@@ -125,7 +123,7 @@ module _ (l : nodes.L) (blocks : ℕ → tree.Block) (k : ℕ) where
     next_exits K (Stopped v) x = refl
     next_exits K Undefined x = refl
 
-    pub raised_exits : (K : ℕ → nodes.R) (e : End) → Exits e → on_raised K e ≡ ends_with e
+    raised_exits : (K : ℕ → nodes.R) (e : End) → Exits e → on_raised K e ≡ ends_with e
     raised_exits K (Next v) x = absurd x
     raised_exits K (Raised v) x = absurd x
     raised_exits K (Leave v) x = refl
@@ -133,7 +131,7 @@ module _ (l : nodes.L) (blocks : ℕ → tree.Block) (k : ℕ) where
     raised_exits K (Stopped v) x = refl
     raised_exits K Undefined x = refl
 
-    pub stored_exits : (to : ℕ) (e : End) → Exits e → nodes.stored to e ≡ ends_with e
+    stored_exits : (to : ℕ) (e : End) → Exits e → nodes.stored to e ≡ ends_with e
     stored_exits to (Next v) x = absurd x
     stored_exits to (Raised v) x = absurd x
     stored_exits to (Leave v) x = refl
@@ -161,7 +159,7 @@ module _ (l : nodes.L) (blocks : ℕ → tree.Block) (k : ℕ) where
     result_still (Stops kind) = tt
     result_still Unsaid = tt
 
-    abbrev pub StillEntry : Entry T nodes.Item → Type 0
+    abbrev StillEntry : Entry T nodes.Item → Type 0
     StillEntry (Into item start s leave) = (x : Left T) → IsStill (leave x).end
     StillEntry (Instead f) = IsStill f.end
 
@@ -191,7 +189,7 @@ module _ (l : nodes.L) (blocks : ℕ → tree.Block) (k : ℕ) where
     entry_still s (Starts g code given cells) = starts_still s g code _
     entry_still s (Wakes g how closing) = wakes_still s g how closing _
 
-    pub operates_still : (o : Op) (s : T) (args : Option (List Value)) → StillEntry (nodes.operates_on l o s args)
+    operates_still : (o : Op) (s : T) (args : Option (List Value)) → StillEntry (nodes.operates_on l o s args)
     operates_still o s None = tt
     operates_still o s (Some args) = go (l.rules.fits o s.around.world args)
       where
@@ -219,7 +217,7 @@ module _ (l : nodes.L) (blocks : ℕ → tree.Block) (k : ℕ) where
     do_same to line o args = storing_same to line (Sub (λ s. nodes.operates_on l o s (nodes.values s.frame args))) (sub_same _ (λ t. operates_still o t (nodes.values t.frame args)))
 
     -- Operands
-    pub used_still : (o : Option Value) → IsStill (nodes.used o)
+    used_still : (o : Option Value) → IsStill (nodes.used o)
     used_still None = tt
     used_still (Some value.Unset) = tt
     used_still (Some value.None) = tt
@@ -259,7 +257,7 @@ module _ (l : nodes.L) (blocks : ℕ → tree.Block) (k : ℕ) where
     exception_still x (Some (object.Builtin a b)) = tt
     exception_still x (Some (object.Trace a)) = tt
 
-    pub raise_still : (h : List Object) (v : Value) → IsStill (nodes.raise_end h v)
+    raise_still : (h : List Object) (v : Value) → IsStill (nodes.raise_end h v)
     raise_still h (value.Obj n) = exception_still n (slice_get h n)
     raise_still h value.Unset = tt
     raise_still h value.None = tt
@@ -267,7 +265,7 @@ module _ (l : nodes.L) (blocks : ℕ → tree.Block) (k : ℕ) where
     raise_still h (value.Int i) = tt
     raise_still h (value.Str i) = tt
 
-    pub copied_still : (s : T) (to : ℕ) (o : Option Value) → IsStill (nodes.copied s to o).end
+    copied_still : (s : T) (to : ℕ) (o : Option Value) → IsStill (nodes.copied s to o).end
     copied_still s to None = tt
     copied_still s to (Some v) = tt
 
@@ -330,16 +328,21 @@ module _ (l : nodes.L) (blocks : ℕ → tree.Block) (k : ℕ) where
         go Begin t n = e t n
         go (Back p how) t n = ap (λ u. shown k d u) (x.back p how t n) ∙ sym (y.back p how t n)
 
-    return_same : (c : Const) → Same d (nodes.form_row l (tree.Return (operand.Const c))) (nodes.form_row l (tree.Loop (return_stores k (operand.Const c) d)))
-    return_same c = mute_same _ _ (begins c)
-        (mute_next _ _ (mute_act _) (λ v. mute_act _))
-        (mute_loop (return_stores k (operand.Const c) d) (mute_follow _ _ (mute_follow _ _ (mute_follow _ _ (mute_follow _ _ (mute_follow _ _ (mute_act _)))))))
+    -- a value that is given back, if the operand has one, is kept
+    return_begins : (a : Operand) (t : T) (n : ℕ) → shown k d (does cols (nodes.form_row l (tree.Return a)) Begin t n) ≡ does cols (nodes.form_row l (tree.Loop (return_stores k a d))) Begin t n
+    return_begins (operand.Temp from) t n = go (t.frame.temps from)
       where
-        begins : (c : Const) (t : T) (n : ℕ) → shown k d (does cols (nodes.form_row l (tree.Return (operand.Const c))) Begin t n) ≡ does cols (nodes.form_row l (tree.Loop (return_stores k (operand.Const c) d))) Begin t n
-        begins const.None t n = refl
-        begins (const.Bool b) t n = refl
-        begins (const.Int i) t n = refl
-        begins (const.Str i) t n = refl
+        go : (o : Option Value) → shown k d (Ended [] t (nodes.given o)) ≡ does cols (Loop (nodes.followed (Act (λ u. nodes.copied u k o)) (nodes.block_row l (return_flags k d))) (nodes.OfLoop (return_stores k (operand.Temp from) d))) Begin t n
+        go None = refl
+        go (Some v) = refl
+    return_begins (operand.Const c) t n = refl
+
+    return_mute : (a : Operand) → IsMute (nodes.block_row l (return_stores k a d))
+    return_mute (operand.Temp from) = mute_follow _ _ (mute_follow _ _ (mute_follow _ _ (mute_follow _ _ (mute_follow _ _ (mute_act _)))))
+    return_mute (operand.Const c) = mute_follow _ _ (mute_follow _ _ (mute_follow _ _ (mute_follow _ _ (mute_follow _ _ (mute_act _)))))
+
+    return_same : (a : Operand) → Same d (nodes.form_row l (tree.Return a)) (nodes.form_row l (tree.Loop (return_stores k a d)))
+    return_same a = mute_same _ _ (return_begins a) (mute_act _) (mute_loop (return_stores k a d) (return_mute a))
 
     -- how a leave of so many loops shows, by where it leads
     abbrev Leads : ℕ → Option ℕ → Type 0
@@ -365,23 +368,22 @@ module _ (l : nodes.L) (blocks : ℕ → tree.Block) (k : ℕ) where
   leaves_same d (suc j) = leave_same d j (outward d j) (leads d j)
 
   mutual
-    form_same : (one : Option Const) (x : tree.Form) → ReturnsIn one x → (d : ℕ) → Same d (nodes.form_row l x) (nodes.form_row l (redirect_form k x d))
-    form_same one (tree.Constant to c) y d = act_same d _ (λ t. tt)
-    form_same one (tree.Copy to from) y d = act_same d _ (λ t. copied_still d t to (t.frame.temps from))
-    form_same one (tree.Do to line o args) y d = do_same d to line o args
-    form_same one (tree.Call to line function args) y d = do_same d to line op.Call (argument.Value function ∷ map argument.Value args)
-    form_same one (tree.Yield to line a) y d = reading_same d a _ _ (λ v. storing_same d to line (Yld v) (yld_same d v))
-    form_same one (tree.If test b c) y d = reading_same d test _ _ (λ v. choose_same d v _ _ _ _ (block_same one b y.0 d) (block_same one c y.1 d))
-    form_same one (tree.Loop body) y d = loop_same d body (redirect k body (suc d)) (block_same one body y (suc d))
-    form_same one (tree.Leave levels) y d = leaves_same d levels
-    form_same one (tree.Catch to body handler) y d =
-        raised_same d _ _ (nodes.handled to (nodes.block_row l handler)) (nodes.handled to (nodes.block_row l (redirect k handler d))) (block_same one body y.0 d)
-        (λ x. next_same d _ _ (λ v. nodes.block_row l handler) (λ v. nodes.block_row l (redirect k handler d)) (act_same d _ (λ t. tt)) (λ v. block_same one handler y.1 d))
-    form_same one (tree.Return (operand.Const c)) y d = return_same d c
-    form_same one (tree.Return (operand.Temp t)) y d = absurd y
-    form_same one (tree.Raise a) y d = reading_same d a _ _ (λ v. act_same d _ (λ t. raise_still d t.around.world.heap v))
-    form_same one (tree.Unset to) y d = act_same d _ (λ t. tt)
+    form_same : (x : tree.Form) (d : ℕ) → Same d (nodes.form_row l x) (nodes.form_row l (redirect_form k x d))
+    form_same (tree.Constant to c) d = act_same d _ (λ t. tt)
+    form_same (tree.Copy to from) d = act_same d _ (λ t. copied_still d t to (t.frame.temps from))
+    form_same (tree.Do to line o args) d = do_same d to line o args
+    form_same (tree.Call to line function args) d = do_same d to line op.Call (argument.Value function ∷ map argument.Value args)
+    form_same (tree.Yield to line a) d = reading_same d a _ _ (λ v. storing_same d to line (Yld v) (yld_same d v))
+    form_same (tree.If test b c) d = reading_same d test _ _ (λ v. choose_same d v _ _ _ _ (block_same b d) (block_same c d))
+    form_same (tree.Loop body) d = loop_same d body (redirect k body (suc d)) (block_same body (suc d))
+    form_same (tree.Leave levels) d = leaves_same d levels
+    form_same (tree.Catch to body handler) d =
+        raised_same d _ _ (nodes.handled to (nodes.block_row l handler)) (nodes.handled to (nodes.block_row l (redirect k handler d))) (block_same body d)
+        (λ x. next_same d _ _ (λ v. nodes.block_row l handler) (λ v. nodes.block_row l (redirect k handler d)) (act_same d _ (λ t. tt)) (λ v. block_same handler d))
+    form_same (tree.Return a) d = return_same d a
+    form_same (tree.Raise a) d = reading_same d a _ _ (λ v. act_same d _ (λ t. raise_still d t.around.world.heap v))
+    form_same (tree.Unset to) d = act_same d _ (λ t. tt)
 
-    pub block_same : (one : Option Const) (b : tree.Block) → ReturnsConstants one b → (d : ℕ) → Same d (nodes.block_row l b) (nodes.block_row l (redirect k b d))
-    block_same one tree.Stop y d = ends_same d (Next value.None) tt
-    block_same one (tree.Follow x r) y d = next_same d _ _ (λ v. nodes.block_row l r) (λ v. nodes.block_row l (redirect k r d)) (form_same one x y.0 d) (λ v. block_same one r y.1 d)
+    pub block_same : (b : tree.Block) (d : ℕ) → Same d (nodes.block_row l b) (nodes.block_row l (redirect k b d))
+    block_same tree.Stop d = ends_same d (Next value.None) tt
+    block_same (tree.Follow x r) d = next_same d _ _ (λ v. nodes.block_row l r) (λ v. nodes.block_row l (redirect k r d)) (form_same x d) (λ v. block_same r d)

@@ -1,8 +1,7 @@
 -- A block is rewritten, so that it returns nothing and leaves no loop around it but the nearest: what it would have done is kept in five
 -- temporaries, from t on: the value that is returned, or the exception; whether an end other than a value is pending; whether it is an
 -- exception; whether it is a return; and whether it leaves two loops.
-use Rattle.std.specs.Prelude.{◌≡◌, ℕ, zero, suc, ◌+◌, Bool, true, false, Option, Some, None}
-use Rattle.op_rules.specs.declared.constant.Const.{Const}
+use Rattle.std.specs.Prelude.{ℕ, zero, suc, ◌+◌, Bool, true, false, Option, Some, None}
 use Rattle.op_rules.specs.declared.constant.Const.TheVariants as const
 use Rattle.node_tree.specs.declared.node.Operand.{Operand}
 use Rattle.node_tree.specs.declared.node.Operand.TheVariants as operand
@@ -20,9 +19,13 @@ puts to (operand.Const c) = tree.Constant to c
 abbrev pub flag : ℕ → Bool → tree.Form
 flag to b = tree.Constant to (const.Bool b)
 
+-- a return is pending; this loop is left, so many of the block, and the nearest around
+abbrev pub return_flags : ℕ → ℕ → tree.Block
+return_flags t d = tree.Follow (flag (t + 1) true) (tree.Follow (flag (t + 2) false) (tree.Follow (flag (t + 3) true) (alone (tree.Leave (suc (suc d))))))
+
 -- a return, inside so many loops of the block: one node stands for one, a loop that stores and leaves itself, these, and the nearest around
 abbrev pub return_stores : ℕ → Operand → ℕ → tree.Block
-return_stores t o d = tree.Follow (puts t o) (tree.Follow (flag (t + 1) true) (tree.Follow (flag (t + 2) false) (tree.Follow (flag (t + 3) true) (alone (tree.Leave (suc (suc d)))))))
+return_stores t o d = tree.Follow (puts t o) (return_flags t d)
 
 abbrev pub is_further : ℕ → Bool
 is_further zero = false
@@ -65,28 +68,3 @@ abbrev mutual
   pub redirect : ℕ → tree.Block → ℕ → tree.Block
   redirect t tree.Stop d = tree.Stop
   redirect t (tree.Follow x r) d = tree.Follow (redirect_form t x d) (redirect t r d)
-
--- what is returned in a block is constants, or always this one
-abbrev pub IsReturn : Option Const → Operand → Type 0
-IsReturn one (operand.Temp t) = ⊥
-IsReturn None (operand.Const c) = Unit {0}
-IsReturn (Some one) (operand.Const c) = one ≡ c
-
-abbrev mutual
-  pub ReturnsIn : Option Const → tree.Form → Type 0
-  ReturnsIn one (tree.Constant to c) = Unit {0}
-  ReturnsIn one (tree.Copy to from) = Unit {0}
-  ReturnsIn one (tree.Do to line o args) = Unit {0}
-  ReturnsIn one (tree.Call to line function args) = Unit {0}
-  ReturnsIn one (tree.Yield to line a) = Unit {0}
-  ReturnsIn one (tree.If test y n) = ReturnsConstants one y × ReturnsConstants one n
-  ReturnsIn one (tree.Loop body) = ReturnsConstants one body
-  ReturnsIn one (tree.Leave levels) = Unit {0}
-  ReturnsIn one (tree.Catch to body handler) = ReturnsConstants one body × ReturnsConstants one handler
-  ReturnsIn one (tree.Return a) = IsReturn one a
-  ReturnsIn one (tree.Raise a) = Unit {0}
-  ReturnsIn one (tree.Unset to) = Unit {0}
-
-  pub ReturnsConstants : Option Const → tree.Block → Type 0
-  ReturnsConstants one tree.Stop = Unit {0}
-  ReturnsConstants one (tree.Follow x r) = ReturnsIn one x × ReturnsConstants one r

@@ -1,7 +1,5 @@
 -- How the ends of a block show, once it is rewritten.
-use Rattle.std.specs.Prelude.{◌≡◌, ℕ, zero, suc, ◌+◌, true, false, Option, Some, None}
-use Rattle.op_rules.specs.declared.constant.Const.{Const}
-use Rattle.op_rules.specs.Foldable.{value_of}
+use Rattle.std.specs.Prelude.{◌≡◌, ℕ, zero, suc, ◌+◌, true, false}
 use Rattle.nu_value.specs.declared.value.Value.{Value}
 use Rattle.nu_value.specs.declared.value.Value.TheVariants as value
 use Rattle.nu_rows.specs.Rows.{End, Next, Leave, Raised, Return, Stopped, Undefined, Start, Res, Spent, Paused, Ended, does}
@@ -61,18 +59,3 @@ Exits e = Unit {0}
 -- the second row does what the first does, from every start and within the same bound, and its ends are as they show
 pub record Redirected (l : nodes.L) (blocks : ℕ → tree.Block) (k d : ℕ) (r c : nodes.R) : Type 0 where
   pub same : (start : Start) (t : T) (n : ℕ) → shown k d (does (nodes.item_row l blocks) r start t n) ≡ does (nodes.item_row l blocks) c start t n
-
--- an end is no return, or one of the constant
-abbrev pub EndsSo : Option Const → End → Type 0
-EndsSo (Some one) (Return v) = value_of one ≡ v
-EndsSo None (Return v) = Unit {0}
-EndsSo one (Next v) = Unit {0}
-EndsSo one (Leave j) = Unit {0}
-EndsSo one (Raised x) = Unit {0}
-EndsSo one (Stopped kind) = Unit {0}
-EndsSo one Undefined = Unit {0}
-
-abbrev pub ReturnsSo : Option Const → Res T → Type 0
-ReturnsSo one (Spent o) = Unit {0}
-ReturnsSo one (Paused o t v p) = Unit {0}
-ReturnsSo one (Ended o t e) = EndsSo one e

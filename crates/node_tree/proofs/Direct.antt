@@ -29,7 +29,7 @@ mutual
   form_direct l (tree.Leave levels) = act_direct _
   form_direct l (tree.Catch to body handler) =
       then_direct _ _ (block_direct l body) (raised_direct _ (λ x. then_direct _ _ (act_direct _) (next_direct _ (λ v. block_direct l handler))))
-  form_direct l (tree.Return a) = then_direct _ _ (act_direct _) (next_direct _ (λ v. act_direct _))
+  form_direct l (tree.Return a) = act_direct _
   form_direct l (tree.Raise a) = then_direct _ _ (act_direct _) (next_direct _ (λ v. act_direct _))
   form_direct l (tree.Unset to) = act_direct _
 

@@ -58,6 +58,11 @@ used None = Undefined
 used (Some value.Unset) = Undefined
 used (Some v) = Next v
 
+-- a value that is given back, Unset too
+abbrev pub given : Option Value → End
+given None = Undefined
+given (Some v) = Return v
+
 -- an operand is read
 abbrev pub reading : Operand → (Value → R) → R
 reading a k = Then (Act (λ s. record { out = []; state = s; end = used (held s.frame a) })) (on_next k)
@@ -138,7 +143,7 @@ abbrev mutual
   form_row l (tree.Loop body) = Loop (block_row l body) (OfLoop body)
   form_row l (tree.Leave levels) = ends_with (leave_end levels)
   form_row l (tree.Catch to body handler) = Then (block_row l body) (on_raised (handled to (block_row l handler)))
-  form_row l (tree.Return a) = reading a (λ v. ends_with (Return v))
+  form_row l (tree.Return a) = Act (λ s. record { out = []; state = s; end = given (held s.frame a) })
   form_row l (tree.Raise a) = reading a raise_row
   form_row l (tree.Unset to) = write_row to value.Unset
 

@@ -1,9 +1,10 @@
 -- Operations, calls, asks and resumes as rows.
 use Rattle.std.specs.Prelude.{ℕ, List, [], Option, Some, None, Bool, false, if◌then◌else◌}
 use Rattle.nu_value.specs.declared.value.Value.{Value}
+use Rattle.nu_value.specs.declared.value.Value.TheVariants as value
 use Rattle.op_rules.specs.declared.end.After.{After}
 use Rattle.op_rules.specs.declared.op.Op.{Op}
-use Rattle.nu_rows.specs.Rows.{End, Next, Raised, Stopped, Undefined, Step, How, Begin, Back, Effect, Row, Act, Yld, Then, Sub, Left, AtPause, AtEnd, Entry, Into, Instead}
+use Rattle.nu_rows.specs.Rows.{End, Next, Raised, Return, Stopped, Undefined, Step, How, Begin, Back, Effect, Row, Act, Yld, Then, Sub, Left, AtPause, AtEnd, Entry, Into, Instead}
 use Rattle.nu_rows.specs.Words.{on_raised}
 use Rattle.nu_calls.specs.Rules.{Rules}
 use Rattle.nu_calls.specs.Surroundings.{Surroundings, Scene, scene, with_scene, kept_at, with_kept}
@@ -54,17 +55,22 @@ unsaid s = record { out = []; state = s; end = Undefined }
 abbrev pub back_in : {F I : Type 0} → Language F I → F → Surroundings (Pause F) → Scene
 back_in l f a = outside l.rules l.scripts (scene a) (l.code f)
 
+-- how a body ended, for what began it: nothing is said of one that gives back Unset
+abbrev pub given_back : End → End
+given_back (Return value.Unset) = Undefined
+given_back e = e
+
 -- a called body stopped; a pause of it means nothing
 abbrev pub leave_call : {F I : Type 0} → Language F I → F → After → Left (State F) → Effect (State F)
 leave_call l f after (AtPause s v place) = unsaid s
-leave_call l f after (AtEnd s e) = effect_of (state_of f s.around) [] (call_ended l.rules after (back_in l f s.around) e)
+leave_call l f after (AtEnd s e) = effect_of (state_of f s.around) [] (call_ended l.rules after (back_in l f s.around) (given_back e))
 
 -- a resumed generator stopped
 abbrev pub leave_generator : {F I : Type 0} → Language F I → F → ℕ → ℕ → Bool → Left (State F) → Effect (State F)
 leave_generator l f g code closing (AtPause s v place) =
     effect_of (state_of f (with_kept s.around g (Some (record { code = code; frame = s.frame; place = place })))) [] (generator_paused (back_in l f s.around) g closing v)
 leave_generator l f g code closing (AtEnd s e) =
-    effect_of (state_of f s.around) [] (generator_ended (back_in l f s.around) g closing e)
+    effect_of (state_of f s.around) [] (generator_ended (back_in l f s.around) g closing (given_back e))
 
 -- the state in which a body of a code begins or goes on
 abbrev pub enters : {F I : Type 0} → Language F I → Surroundings (Pause F) → ℕ → F → State F

@@ -4,6 +4,8 @@ use Rattle.nu_run.specs.declared.End as run_end
 use Rattle.nu_run.specs.declared.End.TheVariants as end
 use Rattle.nu_run.specs.Runs.{Run}
 use Rattle.nu_value.specs.declared.header.Header.{Header}
+use Rattle.nu_value.specs.declared.object.Object.{Object}
+use Rattle.nu_value.specs.declared.object.Object.TheVariants as object
 use Rattle.nu_value.specs.declared.value.Value.{Value}
 use Rattle.nu_value.specs.declared.value.Value.TheVariants as value
 use Rattle.op_rules.specs.declared.end.After.TheVariants as after
@@ -15,7 +17,7 @@ use Rattle.nu_rows.specs.Words.{ends_with, on_next, quiet}
 use Rattle.nu_rows.specs.Driver.{main_run}
 use Rattle.nu_calls.specs.Surroundings.{scene, with_scene, with_frames}
 use Rattle.nu_calls.specs.Ends.{Begun, Over, Calls, Began, begun_by}
-use Rattle.nu_calls.specs.Calls.{State, state_of, in_scene, Language, end_of, unsaid, enters, calls}
+use Rattle.nu_calls.specs.Calls.{State, state_of, in_scene, Language, end_of, unsaid, given_back, enters, calls}
 use Rattle.nu_calls.specs.Traceback.{head_text, tail_text}
 
 -- the built-in function that gives the text of an exception, if there is one
@@ -31,9 +33,14 @@ report_entry l s other = Instead (unsaid s)
 abbrev pub report_began : {F I : Type 0} → Language F I → State F → Began → Entry (State F) I
 report_began l s b = report_entry l (in_scene s b.scene) b.begun
 
-abbrev pub asks_report : {F I : Type 0} → Language F I → State F → ℕ → Option Value → Entry (State F) I
-asks_report l s e (Some (value.Obj f)) =
+-- this object, which the name is bound to, is asked if it is a function
+abbrev pub asks_function : {F I : Type 0} → Language F I → State F → ℕ → ℕ → Option Object → Entry (State F) I
+asks_function l s e f (Some (object.Function code defaults keywords cells)) =
     report_began l s (begun_by l.scripts (scene s.around) (l.rules.bind s.around.world f (value.Obj e ∷ []) after.Plain))
+asks_function l s e f other = Instead (quiet s)
+
+abbrev pub asks_report : {F I : Type 0} → Language F I → State F → ℕ → Option Value → Entry (State F) I
+asks_report l s e (Some (value.Obj f)) = asks_function l s e f (slice_get s.around.world.heap f)
 asks_report l s e other = Instead (quiet s)
 
 -- the text of an exception is what that function gives of it, and nothing where it gives no text
@@ -86,7 +93,7 @@ module_ended l file next other = ends_with Undefined
 -- the code of a module, and what follows it
 abbrev pub module_row : {F I : Type 0} → Program F I → List ℕ → ℕ → Row (State F) I → Row (State F) I
 module_row p file code next =
-    Then (Then (Act (λ s. module_begun p.language code s (p.language.frame code [] []))) (on_next (λ v. p.body code))) (module_ended p.language file next)
+    Then (Then (Act (λ s. module_begun p.language code s (p.language.frame code [] []))) (on_next (λ v. p.body code))) (λ e. module_ended p.language file next (given_back e))
 
 -- the script is code 0; the module of the built-in text, if there is one, stands behind the script's codes, and runs first
 abbrev pub script_row : {F I : Type 0} → Program F I → List ℕ → Row (State F) I

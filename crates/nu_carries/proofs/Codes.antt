@@ -20,7 +20,7 @@ module _ (z : Setting) (h : Homes) (n : ℕ) (k : Value → Facts) (fs : Facts) 
   body_ends tabs (Next v) s (Next w) t x = outer tabs (k v) s t x
   body_ends tabs (Leave i) s (Leave j) t x = tt
   body_ends tabs (Raised i) s (Raised j) t x = (x.0, outer tabs fs s t x.1)
-  body_ends tabs (Return i) s (Return j) t x = (x.0, outer tabs fs s t x.2)
+  body_ends tabs (Return i) s (Return j) t x = (x.0, outer tabs fs s t x.1)
   body_ends tabs (Stopped i) s (Stopped j) t x = x
   body_ends tabs Undefined s Undefined t x = tt
   body_ends tabs e s e' t x = absurd x

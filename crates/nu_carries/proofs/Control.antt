@@ -92,6 +92,10 @@ module _ (z : Setting) (h : Homes) where
   pub flagged_by : (Pre : States) (Q : AllEnds) (a : Operand) (b : Bool) (r : python.R) (y n : tree.Block) → ((tabs : Tables) (s : S) (t : T) → Pre tabs s t → nodes.held t.frame a ≡ Some (value.Bool b)) → CarriedBy z h Pre Q r (choose (value.Bool b) (nodes.block_row (target z) y) (nodes.block_row (target z) n)) → CarriedBy z h Pre Q r (nodes.form_row (target z) (tree.If a y n))
   flagged_by Pre Q a b r y n known x = read_by z h 0 Pre Q a (value.Bool b) r (λ w. choose w (nodes.block_row (target z) y) (nodes.block_row (target z) n)) refl known x
 
+  -- the value of an operand that is known is returned
+  pub return_by : (Pre : States) (Q : AllEnds) (a : Operand) (v : Value) → ((tabs : Tables) (s : S) (t : T) → Pre tabs s t → nodes.held t.frame a ≡ Some v) → ((tabs : Tables) (s : S) (t : T) → Pre tabs s t → Q tabs (Return v) s (Return v) t) → CarriedBy z h Pre Q (ends_with (Return v)) (nodes.form_row (target z) (tree.Return a))
+  return_by Pre Q a v known done = act_by z h Pre Q _ _ (λ tabs s t x. (refl, subst (λ o. Q tabs (Return v) s (nodes.given o) t) (sym (known tabs s t x)) (done tabs s t x)))
+
   -- Statements of the nodes alone
 
   -- a temporary is written first

@@ -92,6 +92,7 @@ write_as h d v fs gs f g le facts x = record {
   code = x.code;
   count = x.count;
   made = x.made;
+  rest = x.rest;
   locals = λ place l. let r = x.room.filled in let b : local_at h place < behind h = local_below h place x.room (omega arith) in put_other g.temps d v (local_at h place) (λ e. let e₁ : local_at h place ≡ d = e in omega arith) ∙ x.locals place l;
   owns = λ place l. let r = x.room.made in let r₂ = x.room.params in put_other g.temps d v (own_at h place) (λ e. let e₁ : own_at h place ≡ d = e in omega arith) ∙ x.owns place l;
   frees = λ place l. let r₂ = x.room.params in put_other g.temps d v (free_at h place) (λ e. let e₁ : free_at h place ≡ d = e in omega arith) ∙ x.frees place l;
@@ -101,7 +102,7 @@ write_as h d v fs gs f g le facts x = record {
 module _ (z : Setting) (h : Homes) (tabs : Tables) where
   pub refit : (fs gs : Facts) (s : S) (t : T) → (Fits fs s.frame.carried t.frame → Fits gs s.frame.carried t.frame) → Correspond z h tabs fs s t → Correspond z h tabs gs s t
   refit fs gs s t f x = record {
-    frames = record { room = x.frames.room; code = x.frames.code; count = x.frames.count; made = x.frames.made; locals = x.frames.locals; owns = x.frames.owns; frees = x.frames.frees; facts = f x.frames.facts };
+    frames = record { room = x.frames.room; code = x.frames.code; count = x.frames.count; made = x.frames.made; rest = x.frames.rest; locals = x.frames.locals; owns = x.frames.owns; frees = x.frames.frees; facts = f x.frames.facts };
     around = x.around;
   }
 

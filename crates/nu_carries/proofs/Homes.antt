@@ -60,6 +60,7 @@ bound_as h place v fs f g l off x =
       code = x.code;
       count = length-set f.locals place v ∙ x.count;
       made = x.made;
+      rest = λ i le. at_other f.locals place i v (λ e. let e₁ : i ≡ place = e in omega arith) ∙ x.rest i le;
       locals = λ i li. go i li (nat_eq i place) refl;
       owns = λ i li. put_other g.temps (local_at h place) v (own_at h i) (cell_apart h place (own_at h i) (omega arith, omega arith)) ∙ x.owns i li;
       frees = λ i li. put_other g.temps (local_at h place) v (free_at h i) (cell_apart h place (free_at h i) (omega arith, omega arith)) ∙ x.frees i li;

@@ -11,7 +11,7 @@ use Rattle.nu_rows.specs.Matching.{Acts, Enters, Corresponding}
 use Rattle.nu_rows.proofs.Congruence.{sub_both}
 use Rattle.nu_calls.specs.Surroundings.{Surroundings, Scene, scene, kept_at, keep_at, with_kept}
 use Rattle.nu_calls.specs.Ends.{Result, Gives, Raises, Stops, Unsaid, Ending, Begun, Over, Calls, Starts, Wakes, Began, begun_by, generator_paused, generator_ended, call_ended, inside, outside, at_line}
-use Rattle.nu_calls.specs.Calls.{Pause, state_of, in_scene, end_of, effect_of, unsaid, back_in, leave_call, leave_generator, enters, calls, starts, goes_on, entry, began, operates, enlisted, on_line, operate, yields}
+use Rattle.nu_calls.specs.Calls.{Pause, state_of, in_scene, end_of, effect_of, unsaid, given_back, back_in, leave_call, leave_generator, enters, calls, starts, goes_on, entry, began, operates, enlisted, on_line, operate, yields}
 use Rattle.node_tree.specs.declared.node.Argument.{Argument}
 use Rattle.node_tree.specs.declared.node.Operand.TheVariants as operand
 use Rattle.node_tree.specs.Nodes as nodes
@@ -51,6 +51,24 @@ OpEndsBy C e s e' t = ⊥
 -- with what is known then
 abbrev pub OpEnds : Setting → Homes → Facts → AllEnds
 OpEnds z h fs tabs = OpEndsBy (Correspond z h tabs fs)
+
+-- what bodies end with corresponds, for what began them too
+pub given_as : (z : Setting) (tabs : Tables) (e : End) (s : S) (e' : End) (t : T) → BodyEnds z tabs e s e' t → BodyEnds z tabs (given_back e) s (given_back e') t
+given_as z tabs (Return v) s (Return w) t x = subst (λ u. BodyEnds z tabs (given_back (Return v)) s (given_back (Return u)) t) x.0 (go v)
+  where
+    go : (v : Value) → BodyEnds z tabs (given_back (Return v)) s (given_back (Return v)) t
+    go value.Unset = tt
+    go value.None = (refl, x.1)
+    go (value.Bool b) = (refl, x.1)
+    go (value.Int i) = (refl, x.1)
+    go (value.Str i) = (refl, x.1)
+    go (value.Obj i) = (refl, x.1)
+given_as z tabs (Next v) s (Next w) t x = x
+given_as z tabs (Leave i) s (Leave j) t x = x
+given_as z tabs (Raised i) s (Raised j) t x = x
+given_as z tabs (Stopped i) s (Stopped j) t x = x
+given_as z tabs Undefined s Undefined t x = x
+given_as z tabs e s e' t x = absurd x
 
 -- the states of the code that does an operation correspond: it is one code, in corresponding surroundings, whichever these are
 module _ (z : Setting) (tabs : Tables) (C : S → T → Type 0) (outer : (s : S) (t : T) → C s t → Outer z tabs s t) (caller : (s : S) (t : T) (a : Surroundings (Pause python.Frame)) (b : Surroundings (Pause nodes.Frame)) → C s t → AroundAs z tabs a b → C (state_of s.frame a) (state_of t.frame b)) where
@@ -123,7 +141,7 @@ module _ (z : Setting) (tabs : Tables) (C : S → T → Type 0) (outer : (s : S)
         ended (Next i) u (Next j) v y = call_as s t after _ _ (back_as u.around v.around y.around) (Next i) u (Next j) v x y
         ended (Leave i) u (Leave j) v y = record { outs = refl; ends = tt }
         ended (Raised i) u (Raised j) v y = call_as s t after _ _ (back_as u.around v.around y.1.around) (Raised i) u (Raised j) v x y
-        ended (Return i) u (Return j) v y = call_as s t after _ _ (back_as u.around v.around y.1.around) (Return i) u (Return j) v x y
+        ended (Return i) u (Return j) v y = call_as s t after _ _ (back_as u.around v.around y.1.around) (given_back (Return i)) u (given_back (Return j)) v x (given_as z tabs (Return i) u (Return j) v y)
         ended (Stopped i) u (Stopped j) v y = record { outs = refl; ends = y }
         ended Undefined u Undefined v y = record { outs = refl; ends = tt }
         ended e u e' v y = absurd y
@@ -132,7 +150,7 @@ module _ (z : Setting) (tabs : Tables) (C : S → T → Type 0) (outer : (s : S)
     resumed g code closing (Next i) u (Next j) v y = generator_as s t g closing _ _ (back_as u.around v.around y.around) (Next i) u (Next j) v x y
     resumed g code closing (Leave i) u (Leave j) v y = record { outs = refl; ends = tt }
     resumed g code closing (Raised i) u (Raised j) v y = generator_as s t g closing _ _ (back_as u.around v.around y.1.around) (Raised i) u (Raised j) v x y
-    resumed g code closing (Return i) u (Return j) v y = generator_as s t g closing _ _ (back_as u.around v.around y.1.around) (Return i) u (Return j) v x y
+    resumed g code closing (Return i) u (Return j) v y = generator_as s t g closing _ _ (back_as u.around v.around y.1.around) (given_back (Return i)) u (given_back (Return j)) v x (given_as z tabs (Return i) u (Return j) v y)
     resumed g code closing (Stopped i) u (Stopped j) v y = record { outs = refl; ends = y }
     resumed g code closing Undefined u Undefined v y = record { outs = refl; ends = tt }
     resumed g code closing e u e' v y = absurd y

@@ -1,6 +1,8 @@
 -- A script whose codes are carried has the run of its nodes.
 use Rattle.std.proofs.Common.{◌≡◌, ℕ, zero, suc, Bool, true, false, if◌then◌else◌, nat_lt, length, map, List, [], ◌∷◌, Option, Some, None, refl, ap, ◌∙◌, subst, arith}
 use Rattle.std.specs.Prelude.{slice_get}
+use Rattle.nu_value.specs.declared.object.Object.{Object}
+use Rattle.nu_value.specs.declared.object.Object.TheVariants as object
 use Rattle.nu_value.specs.declared.value.Value.{Value}
 use Rattle.nu_value.specs.declared.value.Value.TheVariants as value
 use Rattle.op_rules.specs.declared.end.After.TheVariants as after
@@ -15,9 +17,9 @@ use Rattle.nu_rows.proofs.Congruence.{both_map, sim_map, act_both, then_both, su
 use Rattle.nu_rows.proofs.Driving.{main_same}
 use Rattle.nu_calls.specs.Surroundings.{Surroundings, scene, with_frames}
 use Rattle.nu_calls.specs.Ends.{Begun, Over, Calls, Starts, Wakes, Began, begun_by, inside}
-use Rattle.nu_calls.specs.Calls.{Pause, state_of, in_scene}
+use Rattle.nu_calls.specs.Calls.{Pause, state_of, in_scene, given_back}
 use Rattle.nu_calls.specs.Traceback.{head_text}
-use Rattle.nu_calls.specs.Scripts.{Program, report_function, report_entry, report_began, asks_report, report, reported, fixes, reports, uncaught, module_begun, module_ended, module_row, script_row, main_row, shows, start_state}
+use Rattle.nu_calls.specs.Scripts.{Program, report_function, report_entry, report_began, asks_function, asks_report, report, reported, fixes, reports, uncaught, module_begun, module_ended, module_row, script_row, main_row, shows, start_state}
 use Rattle.node_tree.specs.Nodes as nodes
 use Rattle.node_tree.specs.Run as node_run
 use Rattle.node_tree.specs.Tree.{code_block}
@@ -25,7 +27,7 @@ use Rattle.py_meaning.specs.Frames as python
 use Rattle.py_meaning.specs.Bodies as bodies
 use Rattle.nu_carries.specs.Frames.{begun}
 use Rattle.nu_carries.specs.Carries.{Setting, source, target, rows, columns, S, T, Tables, AroundAs, Outer, Correspond, At, BodyEnds, BegunAs, Agree, CarriesScript}
-use Rattle.nu_carries.proofs.Operations.{OpEndsBy, result_as, calls_as, scene_as, Meets, nothing_as}
+use Rattle.nu_carries.proofs.Operations.{given_as, OpEndsBy, result_as, calls_as, scene_as, Meets, nothing_as}
 
 module _ (z : Setting) where
   -- within no bound nothing is done
@@ -131,13 +133,19 @@ module _ (z : Setting) where
     quietly : (s : S) (t : T) (x : Out s t) → Meets z tabs Out (λ s t x. x) callers L agree s t x (Instead (quiet s)) (Instead (quiet t))
     quietly s t x = record { places = λ p s q t. ⊥; ends = λ e s e' t. ⊥; entries = record { outs = refl; ends = (refl, x) } }
 
-    report_asked : (s : S) (t : T) (e : ℕ) (f : Option Value) (x : Out s t) → Meets z tabs Out (λ s t x. x) callers L agree s t x (asks_report (source z) s e f) (asks_report (target z) t e f)
-    report_asked s t e (Some (value.Obj f)) x =
-        subst (λ a. Meets z tabs Out (λ s t x. x) callers L agree s t x (asks_report (source z) s e (Some (value.Obj f))) (report_began (target z) t (begun_by z.script.scripts a (z.rules.bind a.world f (value.Obj e ∷ []) after.Plain)))) x.around.scenes
+    -- an object that a name is bound to is asked
+    function_asked : (s : S) (t : T) (e f : ℕ) (o : Option Object) (x : Out s t) → Meets z tabs Out (λ s t x. x) callers L agree s t x (asks_function (source z) s e f o) (asks_function (target z) t e f o)
+    function_asked s t e f (Some (object.Function code defaults keywords cells)) x =
+        subst (λ a. Meets z tabs Out (λ s t x. x) callers L agree s t x (asks_function (source z) s e f (Some (object.Function code defaults keywords cells))) (report_began (target z) t (begun_by z.script.scripts a (z.rules.bind a.world f (value.Obj e ∷ []) after.Plain)))) x.around.scenes
         (began (begun_by z.script.scripts (scene s.around) (z.rules.bind s.around.world f (value.Obj e ∷ []) after.Plain)))
       where
         began : (b : Began) → Meets z tabs Out (λ s t x. x) callers L agree s t x (report_began (source z) s b) (report_began (target z) t b)
         began b = entry_reported (in_scene s b.scene) (in_scene t b.scene) b.begun (scene_as z tabs Out (λ s t x. x) callers s t b.scene b.scene refl x)
+    function_asked s t e f o x = quietly s t x
+
+    report_asked : (s : S) (t : T) (e : ℕ) (f : Option Value) (x : Out s t) → Meets z tabs Out (λ s t x. x) callers L agree s t x (asks_report (source z) s e f) (asks_report (target z) t e f)
+    report_asked s t e (Some (value.Obj f)) x =
+        subst (λ a. Meets z tabs Out (λ s t x. x) callers L agree s t x (asks_report (source z) s e (Some (value.Obj f))) (asks_function (target z) t e f (slice_get a.world.heap f))) x.around.scenes (function_asked s t e f (slice_get s.around.world.heap f) x)
     report_asked s t e (Some value.Unset) x = quietly s t x
     report_asked s t e (Some value.None) x = quietly s t x
     report_asked s t e (Some (value.Bool b)) x = quietly s t x
@@ -222,7 +230,7 @@ module _ (z : Setting) where
           (main_then Out (Opened code) (BodyEnds z tabs) _ _ _ _
           (main_act Out (Opened code) _ _ (λ s t x. opened code _ _ s t (c.begins code [] []) x))
           (body_as code))
-          (ended_as file r d next)
+          (λ e e'. main_less (λ s t. BodyEnds z tabs (given_back e) s (given_back e') t) _ MainEnds _ _ (λ s t x. given_as z tabs e s e' t x) (ended_as file r d next (given_back e) (given_back e')))
 
       script_as : (file : List ℕ) → Main Out MainEnds (script_row (bodies.program z.rules z.script.scripts z.codes) file) (script_row (node_run.program z.rules z.script) file)
       script_as file = module_as file 0 _ _ (main_act Out MainEnds _ _ (λ s t x. (refl, x)))

@@ -25,12 +25,21 @@ used_same (value.Int i) = refl
 used_same (value.Str s) = refl
 used_same (value.Obj o) = refl
 
+-- a value is used, or it is Unset
+pub used_case : (v : Value) → (python.used v ≡ Next v) ⊎ (python.used v ≡ Undefined)
+used_case value.Unset = inr refl
+used_case value.None = inl refl
+used_case (value.Bool b) = inl refl
+used_case (value.Int i) = inl refl
+used_case (value.Str s) = inl refl
+used_case (value.Obj o) = inl refl
+
 module _ (z : Setting) (h : Homes) (n : ℕ) where
   pub ends_map : (tabs : Tables) (k k' : Value → Facts) (fs fs' : Facts) → ((v : Value) (s : S) (t : T) → Correspond z h tabs (k v) s t → Correspond z h tabs (k' v) s t) → ((s : S) (t : T) → Correspond z h tabs fs s t → Correspond z h tabs fs' s t) → (e : End) (s : S) (e' : End) (t : T) → EndsAs z h n k fs tabs e s e' t → EndsAs z h n k' fs' tabs e s e' t
   ends_map tabs k k' fs fs' f g (Next v) s (Next w) t x = f v s t x
   ends_map tabs k k' fs fs' f g (Leave i) s (Leave j) t x = (x.0, x.1, g s t x.2)
   ends_map tabs k k' fs fs' f g (Raised v) s (Raised w) t x = (x.0, g s t x.1)
-  ends_map tabs k k' fs fs' f g (Return v) s (Return w) t x = (x.0, x.1, g s t x.2)
+  ends_map tabs k k' fs fs' f g (Return v) s (Return w) t x = (x.0, g s t x.1)
   ends_map tabs k k' fs fs' f g (Stopped v) s (Stopped w) t x = x
   ends_map tabs k k' fs fs' f g Undefined s Undefined t x = x
   ends_map tabs k k' fs fs' f g e s e' t x = absurd x
@@ -85,7 +94,7 @@ module _ (z : Setting) (h : Homes) (n : ℕ) where
   passes_to n' m k fs gs le f tabs (Next v) s (Next w) t o x = absurd o
   passes_to n' m k fs gs le f tabs (Leave i) s (Leave j) t o x = let l = x.1 in (x.0, omega arith, refit z h tabs fs gs s t (f s.frame.carried t.frame) x.2)
   passes_to n' m k fs gs le f tabs (Raised i) s (Raised j) t o x = (x.0, refit z h tabs fs gs s t (f s.frame.carried t.frame) x.1)
-  passes_to n' m k fs gs le f tabs (Return i) s (Return j) t o x = (x.0, x.1, refit z h tabs fs gs s t (f s.frame.carried t.frame) x.2)
+  passes_to n' m k fs gs le f tabs (Return i) s (Return j) t o x = (x.0, refit z h tabs fs gs s t (f s.frame.carried t.frame) x.1)
   passes_to n' m k fs gs le f tabs (Stopped i) s (Stopped j) t o x = x
   passes_to n' m k fs gs le f tabs Undefined s Undefined t o x = x
   passes_to n' m k fs gs le f tabs e s e' t o x = absurd x
@@ -148,15 +157,7 @@ module _ (z : Setting) (h : Homes) (n : ℕ) where
   pub reads_by : (Pre : States) (Mid : Value → States) (Q : AllEnds) (f : python.Frame → Value) (K : Value → python.R) (c : nodes.R) → ((tabs : Tables) (s : S) (t : T) → Pre tabs s t → Mid (f s.frame) tabs s t) → ((v : Value) → CarriedBy z h (Mid v) Q (K v) c) → CarriedBy z h Pre Q (then_value (python.reads f) K) c
   reads_by Pre Mid Q f K c known next = left_by z h Pre Mid Q _ K c (λ tabs s t x. (refl, known tabs s t x)) next
 
-  -- a value that is yielded or returned
-  used_case : (v : Value) → (python.used v ≡ Next v) ⊎ (python.used v ≡ Undefined)
-  used_case value.Unset = inr refl
-  used_case value.None = inl refl
-  used_case (value.Bool b) = inl refl
-  used_case (value.Int i) = inl refl
-  used_case (value.Str s) = inl refl
-  used_case (value.Obj o) = inl refl
-
+  -- a value that is yielded
   both_undefined : (Pre : States) (Q : AllEnds) (K : Value → python.R) (D : Value → nodes.R) → ((tabs : Tables) (s : S) (t : T) → Pre tabs s t → Q tabs Undefined s Undefined t) → (e e' : End) → CarriedBy z h (λ tabs s t. (e ≡ Undefined) × (e' ≡ Undefined) × Pre tabs s t) Q (on_next K e) (on_next D e')
   both_undefined Pre Q K D u Undefined Undefined = act_by z h _ Q _ _ (λ tabs s t x. (refl, u tabs s t x.2))
   both_undefined Pre Q K D u Undefined (Next v) = none_by z h _ Q _ _ (λ tabs s t x. let e : Next v ≡ Undefined = x.1 in cc)

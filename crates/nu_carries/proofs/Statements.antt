@@ -23,9 +23,9 @@ use Rattle.nu_carries.specs.Turns.{TurnedEnds}
 use Rattle.nu_carries.specs.Laws.{alone, if_block, turn_block, while_block, Within}
 use Rattle.nu_carries.proofs.Facts.{Off, outside_off, outside_home, local_below, outside_less, refit}
 use Rattle.nu_carries.proofs.Carry.{AllEnds, IsOver, none_by, act_by, then_by, append_by, loop_by}
-use Rattle.nu_carries.proofs.Sequence.{Passes, Unvalued, strengthen, passes_to, seq_carried, seq_to, then_to, unvalued, one_by, uses_by}
+use Rattle.nu_carries.proofs.Sequence.{Passes, Unvalued, strengthen, passes_to, seq_carried, seq_to, then_to, unvalued, one_by}
 use Rattle.nu_carries.proofs.Operations.{operate_carried}
-use Rattle.nu_carries.proofs.Control.{EndsLoop, once_by, branch_by, flagged_by, writes_first}
+use Rattle.nu_carries.proofs.Control.{EndsLoop, once_by, branch_by, flagged_by, return_by, writes_first}
 use Rattle.nu_carries.proofs.Small.{within_off}
 
 pub evaluate_carried : (h : Homes) (low high : ℕ) (caught : Option ℕ) (x : syntax.Expression) (b : tree.Block) (o : Operand) → CarriesExpression h low high x b o → CarriesStatement h low high caught (syntax.Evaluate x) (tree.append b tree.Stop)
@@ -94,7 +94,7 @@ module _ (z : Setting) (h : Homes) (fs gs ts : Facts) where
   LoopEnds tabs (Next v) s (Next w) t = Correspond z h tabs gs s t
   LoopEnds tabs (Leave zero) s (Next w) t = Correspond z h tabs ts s t
   LoopEnds tabs (Raised x) s (Raised y) t = (x ≡ y) × Correspond z h tabs fs s t
-  LoopEnds tabs (Return v) s (Return w) t = (v ≡ w) × (python.used v ≡ Next v) × Correspond z h tabs fs s t
+  LoopEnds tabs (Return v) s (Return w) t = (v ≡ w) × Correspond z h tabs fs s t
   LoopEnds tabs (Stopped i) s (Stopped j) t = i ≡ j
   LoopEnds tabs Undefined s Undefined t = Unit {0}
   LoopEnds tabs e s e' t = ⊥
@@ -107,7 +107,7 @@ module _ (z : Setting) (h : Homes) (fs gs ts : Facts) where
   BodyAs tabs (Next v) s (Leave zero) t = Correspond z h tabs gs s t
   BodyAs tabs (Leave zero) s (Leave (suc zero)) t = Correspond z h tabs gs s t
   BodyAs tabs (Raised x) s (Raised y) t = (x ≡ y) × Correspond z h tabs fs s t
-  BodyAs tabs (Return v) s (Return w) t = (v ≡ w) × (python.used v ≡ Next v) × Correspond z h tabs fs s t
+  BodyAs tabs (Return v) s (Return w) t = (v ≡ w) × Correspond z h tabs fs s t
   BodyAs tabs (Stopped i) s (Stopped j) t = i ≡ j
   BodyAs tabs Undefined s Undefined t = Unit {0}
   BodyAs tabs e s e' t = ⊥
@@ -147,7 +147,7 @@ module _ (z : Setting) (h : Homes) (fs gs ts : Facts) where
     body_next (Leave (suc zero)) (Leave (suc (suc j))) = none_by z h _ BodyAs _ _ (λ tabs s t x. let e : 1 ≡ suc (suc j) = x.0 in absurd (omega arith))
     body_next (Leave (suc (suc i))) (Leave j) = none_by z h _ BodyAs _ _ (λ tabs s t x. let l : suc (suc i) < 2 = x.1 in absurd (omega arith))
     body_next (Raised v) (Raised w) = act_by z h _ BodyAs _ _ (λ tabs s t x. (refl, (x.0, shed tabs s t x.1)))
-    body_next (Return v) (Return w) = act_by z h _ BodyAs _ _ (λ tabs s t x. (refl, (x.0, x.1, shed tabs s t x.2)))
+    body_next (Return v) (Return w) = act_by z h _ BodyAs _ _ (λ tabs s t x. (refl, (x.0, shed tabs s t x.1)))
     body_next (Stopped v) (Stopped w) = act_by z h _ BodyAs _ _ (λ tabs s t x. (refl, x))
     body_next Undefined Undefined = act_by z h _ BodyAs _ _ (λ tabs s t x. (refl, tt))
     body_next e e' = none_by z h _ BodyAs _ _ (λ tabs s t x. x)
@@ -161,7 +161,7 @@ module _ (z : Setting) (h : Homes) (fs gs ts : Facts) where
     test_passes tabs (Next v) s (Next w) t over x = absurd over
     test_passes tabs (Leave i) s (Leave j) t over x = let l : i < 0 = x.1 in absurd (omega arith)
     test_passes tabs (Raised v) s (Raised w) t over x = (x.0, shed tabs s t x.1)
-    test_passes tabs (Return v) s (Return w) t over x = (x.0, x.1, shed tabs s t x.2)
+    test_passes tabs (Return v) s (Return w) t over x = (x.0, shed tabs s t x.1)
     test_passes tabs (Stopped v) s (Stopped w) t over x = x
     test_passes tabs Undefined s Undefined t over x = tt
     test_passes tabs e s e' t over x = absurd x
@@ -252,8 +252,7 @@ return_carried h low high caught x b o c = record {
       let Q : AllEnds = EndsAs z h 2 (λ v. fs) fs in
       seq_to z h 0 (λ v. Holds o v ∷ fs) fs Q _ _ b _ (passes_to z h 0 2 (λ v. Holds o v ∷ fs) (λ v. fs) fs fs (omega arith) (λ c g y. y)) (c.carries z fs off)
       (λ v. one_by z h 2 _ Q _ _ (unvalued z h 2 (λ v. fs) fs)
-      (uses_by z h 2 _ Q o v (λ w. ends_with (Return w)) (λ w. ends_with (Return w)) (λ tabs s t y. y.frames.facts.0) (λ tabs s t y. tt)
-      (λ used. act_by z h _ Q _ _ (λ tabs s t y. (refl, (refl, used, refit z h tabs (Holds o v ∷ fs) fs s t (λ q. q.1) y))))));
+      (return_by z h _ Q o v (λ tabs s t y. y.frames.facts.0) (λ tabs s t y. (refl, refit z h tabs (Holds o v ∷ fs) fs s t (λ q. q.1) y))));
 }
 
 -- from a temporary that holds the value

@@ -74,13 +74,12 @@ abbrev pub At : Setting → Homes → Tables → Table → Places S T
 At z h tabs table p s q t = Correspond z h tabs (table p q) s t
 
 -- corresponding ends, by what is known after a value, and after any other end. A construct leaves fewer than so many loops, expressions
--- none, and statements the two that a loop of a script is; a value that is returned is one; after a stop, and where nothing is said,
--- nothing goes on
+-- none, and statements the two that a loop of a script is; after a stop, and where nothing is said, nothing goes on
 abbrev pub EndsAs : Setting → Homes → ℕ → (Value → Facts) → Facts → Tables → Ends S T
 EndsAs z h n k fs tabs (Next v) s (Next w) t = Correspond z h tabs (k v) s t
 EndsAs z h n k fs tabs (Leave i) s (Leave j) t = (i ≡ j) × (i < n) × Correspond z h tabs fs s t
 EndsAs z h n k fs tabs (Raised x) s (Raised y) t = (x ≡ y) × Correspond z h tabs fs s t
-EndsAs z h n k fs tabs (Return v) s (Return w) t = (v ≡ w) × (python.used v ≡ Next v) × Correspond z h tabs fs s t
+EndsAs z h n k fs tabs (Return v) s (Return w) t = (v ≡ w) × Correspond z h tabs fs s t
 EndsAs z h n k fs tabs (Stopped i) s (Stopped j) t = i ≡ j
 EndsAs z h n k fs tabs Undefined s Undefined t = Unit {0}
 EndsAs z h n k fs tabs e s e' t = ⊥

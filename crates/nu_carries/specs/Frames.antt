@@ -1,6 +1,7 @@
 -- When a frame of a script's code and one of its nodes correspond.
 use Rattle.std.specs.Prelude.{◌≡◌, ◌⊎◌, ℕ, ◌+◌, ◌<◌, ◌≤◌, List, [], ◌∷◌, length, Some, nat_lt, if◌then◌else◌}
 use Rattle.nu_value.specs.declared.value.Value.{Value}
+use Rattle.nu_value.specs.declared.value.Value.TheVariants as value
 use Rattle.node_tree.specs.declared.node.Operand.{Operand}
 use Rattle.node_tree.specs.declared.node.Operand.TheVariants as operand
 use Rattle.node_tree.specs.Nodes as nodes
@@ -59,12 +60,14 @@ Fits (Alike v w ∷ fs) c g = (v ≡ w) × Fits fs c g
 Fits (Keeps t ∷ fs) c g = (g.temps t ≡ Some c) × Fits fs c g
 Fits (Never ∷ fs) c g = ⊥
 
--- two frames correspond: they belong to one code, each name that has its temporary has its value there, and the facts are so
+-- two frames correspond: they belong to one code, each name that has its temporary has its value there, each other is Unset, and the
+-- facts are so
 pub record FramesAs (h : Homes) (fs : Facts) (f : python.Frame) (g : nodes.Frame) : Type 0 where
   pub room : HaveRoom h
   pub code : f.code ≡ g.code
   pub count : length f.locals ≡ h.locals
   pub made : length f.owns ≡ h.made
+  pub rest : (place : ℕ) → h.filled ≤ place → python.at f.locals place ≡ value.Unset
   pub locals : (place : ℕ) → place < h.filled → g.temps (local_at h place) ≡ Some (python.at f.locals place)
   pub owns : (place : ℕ) → place < h.made → g.temps (own_at h place) ≡ Some (python.at f.owns place)
   pub frees : (place : ℕ) → place < h.frees → g.temps (free_at h place) ≡ Some (python.at f.frees place)

@@ -24,7 +24,8 @@ use Rattle.nu_carries.proofs.Sequence.{Passes, Unvalued, weaken, strengthen, the
 use Rattle.nu_carries.proofs.Operations.{operate_carried}
 use Rattle.nu_carries.proofs.Control.{branch_by}
 use Rattle.nu_homes.proofs.Functions.{Extends}
-use Rattle.nu_guards.specs.Raises.{of_temp, stopped_block}
+use Rattle.nu_homes.specs.Names.{of_temp}
+use Rattle.nu_guards.specs.Raises.{stopped_block}
 use Rattle.nu_guards.proofs.Steps.{passed}
 
 -- both sides raise exceptions alone

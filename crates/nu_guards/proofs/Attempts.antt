@@ -25,7 +25,7 @@ module _ (z : Setting) (h : Homes) (n : ℕ) (k : Value → Facts) (fs : Facts) 
   Attempted tabs (Next v) s (Next w) t = Correspond z h tabs (k v) s t
   Attempted tabs (Raised e) s (Next w) t = Correspond z h tabs (Holds (operand.Temp flag) (value.Bool true) ∷ Holds (operand.Temp x) (value.Obj e) ∷ fs) s t
   Attempted tabs (Leave i) s (Leave j) t = (i ≡ j) × (i < n) × Correspond z h tabs fs s t
-  Attempted tabs (Return v) s (Return w) t = (v ≡ w) × (python.used v ≡ Next v) × Correspond z h tabs fs s t
+  Attempted tabs (Return v) s (Return w) t = (v ≡ w) × Correspond z h tabs fs s t
   Attempted tabs (Stopped i) s (Stopped j) t = i ≡ j
   Attempted tabs Undefined s Undefined t = Unit {0}
   Attempted tabs e s e' t = ⊥

@@ -25,7 +25,8 @@ use Rattle.nu_carries.proofs.Small.{within_off}
 use Rattle.nu_carries.proofs.Operations.{operate_carried}
 use Rattle.nu_carries.proofs.Control.{writes_first}
 use Rattle.nu_homes.proofs.Functions.{Extends}
-use Rattle.nu_guards.specs.Raises.{of_temp, stopped_block}
+use Rattle.nu_homes.specs.Names.{of_temp}
+use Rattle.nu_guards.specs.Raises.{stopped_block}
 use Rattle.nu_guards.specs.Loops.{attempt, for_turn_block, for_block}
 use Rattle.nu_guards.proofs.Steps.{passing, value_then, do_then}
 use Rattle.nu_guards.proofs.Again.{stopped_by}
@@ -39,7 +40,7 @@ handles_more None None fs gs more x = tt
 handles_more (Some t) (Some y) fs gs more x = λ c g q. x c g (more c g q)
 handles_more caught handled fs gs more x = absurd x
 
-stopped_exits : (l : python.L) (line : ℕ) (more : Value → python.R) (over : ℕ → python.R) (e : End) → Exits e → stopped_or l line more over e ≡ ends_with e
+pub stopped_exits : (l : python.L) (line : ℕ) (more : Value → python.R) (over : ℕ → python.R) (e : End) → Exits e → stopped_or l line more over e ≡ ends_with e
 stopped_exits l line more over (Next v) x = absurd x
 stopped_exits l line more over (Raised v) x = absurd x
 stopped_exits l line more over (Leave v) x = refl

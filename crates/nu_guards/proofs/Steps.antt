@@ -23,7 +23,8 @@ use Rattle.nu_carries.proofs.Carry.{AllEnds}
 use Rattle.nu_carries.proofs.Sequence.{Passes, lessen, passes_to, seq_to, then_to, unvalued, one_by}
 use Rattle.nu_carries.proofs.Operations.{operate_carried}
 use Rattle.nu_homes.proofs.Functions.{Extends}
-use Rattle.nu_guards.specs.Raises.{of_temp, raise_block}
+use Rattle.nu_homes.specs.Names.{of_temp}
+use Rattle.nu_guards.specs.Raises.{raise_block}
 
 module _ (z : Setting) (h : Homes) (fs : Facts) (Q : AllEnds) (pass : Passes z h 0 (λ v. fs) fs Q) where
   -- where more is known, the ends of expressions pass too

@@ -23,7 +23,8 @@ use Rattle.nu_carries.proofs.Sequence.{weaken, strengthen, lessen, unvalued, one
 use Rattle.nu_carries.proofs.Small.{within_off}
 use Rattle.nu_carries.proofs.Control.{branch_by, writes_first}
 use Rattle.nu_homes.proofs.Functions.{Extends, KnowsAll, known_values, all_grow, each_to}
-use Rattle.nu_guards.specs.Raises.{of_temp, raise_block, fails_block, assert_block}
+use Rattle.nu_homes.specs.Names.{of_temp}
+use Rattle.nu_guards.specs.Raises.{raise_block, fails_block, assert_block}
 use Rattle.nu_guards.specs.Tries.{try_block, clause_block, CarriesHandlers, CarriesClause}
 use Rattle.nu_guards.proofs.Steps.{passing, value_then, do_then, raise_by}
 use Rattle.nu_guards.proofs.Again.{again_by}

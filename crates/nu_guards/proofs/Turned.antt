@@ -26,7 +26,7 @@ module _ (z : Setting) (h : Homes) (fs gs ts : Facts) where
   LoopEnds tabs (Next v) s (Next w) t = Correspond z h tabs gs s t
   LoopEnds tabs (Leave zero) s (Next w) t = Correspond z h tabs ts s t
   LoopEnds tabs (Raised x) s (Raised y) t = (x ≡ y) × Correspond z h tabs fs s t
-  LoopEnds tabs (Return v) s (Return w) t = (v ≡ w) × (python.used v ≡ Next v) × Correspond z h tabs fs s t
+  LoopEnds tabs (Return v) s (Return w) t = (v ≡ w) × Correspond z h tabs fs s t
   LoopEnds tabs (Stopped i) s (Stopped j) t = i ≡ j
   LoopEnds tabs Undefined s Undefined t = Unit {0}
   LoopEnds tabs e s e' t = ⊥
@@ -39,7 +39,7 @@ module _ (z : Setting) (h : Homes) (fs gs ts : Facts) where
   BodyAs tabs (Next v) s (Leave zero) t = Correspond z h tabs gs s t
   BodyAs tabs (Leave zero) s (Leave (suc zero)) t = Correspond z h tabs gs s t
   BodyAs tabs (Raised x) s (Raised y) t = (x ≡ y) × Correspond z h tabs fs s t
-  BodyAs tabs (Return v) s (Return w) t = (v ≡ w) × (python.used v ≡ Next v) × Correspond z h tabs fs s t
+  BodyAs tabs (Return v) s (Return w) t = (v ≡ w) × Correspond z h tabs fs s t
   BodyAs tabs (Stopped i) s (Stopped j) t = i ≡ j
   BodyAs tabs Undefined s Undefined t = Unit {0}
   BodyAs tabs e s e' t = ⊥
@@ -95,7 +95,7 @@ module _ (z : Setting) (h : Homes) (fs gs ts : Facts) where
     body_next (Leave (suc zero)) (Leave (suc (suc j))) = none_by z h _ BodyAs _ _ (λ tabs s t x. let e : 1 ≡ suc (suc j) = x.0 in absurd (omega arith))
     body_next (Leave (suc (suc i))) (Leave j) = none_by z h _ BodyAs _ _ (λ tabs s t x. let l : suc (suc i) < 2 = x.1 in absurd (omega arith))
     body_next (Raised v) (Raised w) = act_by z h _ BodyAs _ _ (λ tabs s t x. (refl, (x.0, out tabs s t x.1)))
-    body_next (Return v) (Return w) = act_by z h _ BodyAs _ _ (λ tabs s t x. (refl, (x.0, x.1, out tabs s t x.2)))
+    body_next (Return v) (Return w) = act_by z h _ BodyAs _ _ (λ tabs s t x. (refl, (x.0, out tabs s t x.1)))
     body_next (Stopped v) (Stopped w) = act_by z h _ BodyAs _ _ (λ tabs s t x. (refl, x))
     body_next Undefined Undefined = act_by z h _ BodyAs _ _ (λ tabs s t x. (refl, tt))
     body_next e e' = none_by z h _ BodyAs _ _ (λ tabs s t x. x)

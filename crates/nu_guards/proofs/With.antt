@@ -1,8 +1,7 @@
 -- `with`, where its parts are carried.
-use Rattle.std.proofs.Common.{◌≡◌, ◌≢◌, ◌⊎◌, inr, ℕ, ◌+◌, ◌<◌, ◌≤◌, Bool, true, false, [], ◌∷◌, Option, Some, codes, refl, ap, ◌∙◌, arith, None}
+use Rattle.std.proofs.Common.{◌≡◌, ◌⊎◌, inr, ℕ, ◌+◌, ◌<◌, ◌≤◌, Bool, true, false, [], ◌∷◌, Option, Some, codes, refl, ap, ◌∙◌, arith}
 use Rattle.nu_value.specs.declared.value.Value.{Value}
 use Rattle.nu_value.specs.declared.value.Value.TheVariants as value
-use Rattle.op_rules.specs.declared.constant.Const.{Const}
 use Rattle.op_rules.specs.declared.op.Op.TheVariants as op
 use Rattle.nu_rows.specs.Rows.{End, Next, Leave, Raised, Return, Stopped, Undefined, Then}
 use Rattle.nu_rows.specs.Words.{then_value, ends_with, choose}
@@ -24,9 +23,8 @@ use Rattle.nu_carries.proofs.Sequence.{ends_map, strengthen, passes_to, seq_to, 
 use Rattle.nu_carries.proofs.Small.{within_off}
 use Rattle.nu_carries.proofs.Control.{branch_by}
 use Rattle.nu_homes.proofs.Functions.{Extends}
-use Rattle.nu_guards.specs.Raises.{of_temp}
-use Rattle.node_redirect.specs.Redirect.{ReturnsConstants}
-use Rattle.nu_guards.specs.Finish.{back, guarded, none, exits_block, others_block, leaving_block, with_block}
+use Rattle.nu_homes.specs.Names.{of_temp}
+use Rattle.nu_guards.specs.Finish.{guarded, none, exits_block, others_block, leaving_block, with_block}
 use Rattle.nu_guards.proofs.Steps.{passing, value_then, do_then}
 use Rattle.nu_guards.proofs.Again.{again_by}
 use Rattle.nu_guards.proofs.Loops.{handles_more}
@@ -34,37 +32,30 @@ use Rattle.nu_guards.proofs.Kept.{pend, MayPend, kept_by, kept_then}
 use Rattle.nu_guards.proofs.Finish.{MayGo, if_by, onward_by, pend_less}
 
 -- `fs` is known outside, and `leave` is in its temporary
-module _ (z : Setting) (h : Homes) (fs : Facts) (line t u : ℕ) (one : Option Const) (leave : Value) (above : behind h ≤ t) (le : t + 7 ≤ u) (off : (d : ℕ) → t ≤ d → d < u + 4 → Off d fs) where
+module _ (z : Setting) (h : Homes) (fs : Facts) (line t u : ℕ) (leave : Value) (above : behind h ≤ t) (le : t + 7 ≤ u) (off : (d : ℕ) → t ≤ d → d < u + 4 → Off d fs) where
   abbrev Q : AllEnds
   Q = EndsAs z h 2 (λ v. fs) fs
 
   abbrev Inside : Facts
   Inside = Holds (operand.Temp (t + 6)) leave ∷ fs
 
-  back_apart : (d : ℕ) (v : Value) (one : Option Const) (gs : Facts) → t ≢ d → Off d gs → Off d (Holds (back t one) v ∷ gs)
-  back_apart d v None gs ne x = (ne, x)
-  back_apart d v (Some c) gs ne x = x
-
-  abbrev pend_tail : Value → Facts
-  pend_tail v = Holds (operand.Temp (t + 3)) (value.Bool true) ∷ Holds (operand.Temp (t + 2)) (value.Bool false) ∷ Holds (operand.Temp (t + 1)) (value.Bool true) ∷ Holds (operand.Temp t) v ∷ Inside
-
   -- no temporary from u on is spoken of
-  pend_off : (d : ℕ) (e : End) → u ≤ d → d < u + 4 → Off d (pend t one Inside e)
+  pend_off : (d : ℕ) (e : End) → u ≤ d → d < u + 4 → Off d (pend t Inside e)
   pend_off d (Next v) a b = (λ q. let e₁ : t + 2 ≡ d = q in omega arith, (λ q. let e₁ : t + 1 ≡ d = q in omega arith, (λ q. let e₁ : t + 6 ≡ d = q in omega arith, off d (omega arith) b)))
   pend_off d (Raised v) a b = (λ q. let e₁ : t + 2 ≡ d = q in omega arith, (λ q. let e₁ : t + 1 ≡ d = q in omega arith, (λ q. let e₁ : t ≡ d = q in omega arith, (λ q. let e₁ : t + 6 ≡ d = q in omega arith, off d (omega arith) b))))
-  pend_off d (Return v) a b = back_apart d v one (pend_tail v) (λ q. let e₁ : t ≡ d = q in omega arith) (λ q. let e₁ : t + 3 ≡ d = q in omega arith, (λ q. let e₁ : t + 2 ≡ d = q in omega arith, (λ q. let e₁ : t + 1 ≡ d = q in omega arith, (λ q. let e₁ : t ≡ d = q in omega arith, (λ q. let e₁ : t + 6 ≡ d = q in omega arith, off d (omega arith) b)))))
+  pend_off d (Return v) a b = (λ q. let e₁ : t + 3 ≡ d = q in omega arith, (λ q. let e₁ : t + 2 ≡ d = q in omega arith, (λ q. let e₁ : t + 1 ≡ d = q in omega arith, (λ q. let e₁ : t ≡ d = q in omega arith, (λ q. let e₁ : t + 6 ≡ d = q in omega arith, off d (omega arith) b)))))
   pend_off d (Leave v) a b = (λ q. let e₁ : t + 4 ≡ d = q in omega arith, (λ q. let e₁ : t + 3 ≡ d = q in omega arith, (λ q. let e₁ : t + 2 ≡ d = q in omega arith, (λ q. let e₁ : t + 1 ≡ d = q in omega arith, (λ q. let e₁ : t + 6 ≡ d = q in omega arith, off d (omega arith) b)))))
   pend_off d (Stopped v) a b = (λ q. let e₁ : t + 6 ≡ d = q in omega arith, off d (omega arith) b)
   pend_off d Undefined a b = (λ q. let e₁ : t + 6 ≡ d = q in omega arith, off d (omega arith) b)
 
-  less : (e : End) → Extends (pend t one Inside e) fs
-  less e c g y = (pend_less t one Inside e c g y).1
+  less : (e : End) → Extends (pend t Inside e) fs
+  less e c g y = (pend_less t Inside e c g y).1
 
   -- an exception
-  exits_by : (x : ℕ) → CarriedTo z h Q (pend t one Inside (Raised x)) (leaves_by (source z) line leave x) (nodes.block_row (target z) (exits_block line t (t + 6) u))
+  exits_by : (x : ℕ) → CarriedTo z h Q (pend t Inside (Raised x)) (leaves_by (source z) line leave x) (nodes.block_row (target z) (exits_block line t (t + 6) u))
   exits_by x =
       let e : End = Raised x in
-      let f₀ : Facts = pend t one Inside e in
+      let f₀ : Facts = pend t Inside e in
       do_then z h fs Q (passing z h 2 fs) f₀ line u op.ClassOf (value.Obj x ∷ []) (of_temp t ∷ []) _ _ (less e) (omega arith) (pend_off u e (omega arith) (omega arith)) (λ c g y. ap (λ q. nodes.both q (Some [])) y.1.1.0)
       (λ class. let f₁ : Facts = Holds (operand.Temp u) class ∷ f₀ in
       do_then z h fs Q (passing z h 2 fs) f₁ line (u + 1) op.Trace (value.Obj x ∷ []) (of_temp t ∷ []) _ _ (λ c g y. less e c g y.1) (omega arith) (λ q. let e₁ : u ≡ u + 1 = q in omega arith, pend_off (u + 1) e (omega arith) (omega arith)) (λ c g y. ap (λ q. nodes.both q (Some [])) y.1.1.1.0)
@@ -88,34 +79,34 @@ module _ (z : Setting) (h : Homes) (fs : Facts) (line t u : ℕ) (one : Option C
       (one_by z h 2 _ Q _ _ (unvalued z h 2 (λ v. fs) fs) (again_by z h fs Q (passing z h 2 fs) f₄ t x known (λ c g y. y.1.1.1.1.1.1.0))))))))
 
   -- any other end
-  others_by : (e : End) → MayGo e → CarriedTo z h Q (pend t one Inside e) (then_value (operate (source z) line op.Call (leave ∷ value.None ∷ value.None ∷ value.None ∷ [])) (λ v. ends_with e)) (nodes.block_row (target z) (others_block line t one (t + 6) u))
+  others_by : (e : End) → MayGo e → CarriedTo z h Q (pend t Inside e) (then_value (operate (source z) line op.Call (leave ∷ value.None ∷ value.None ∷ value.None ∷ [])) (λ v. ends_with e)) (nodes.block_row (target z) (others_block line t (t + 6) u))
   others_by e may =
-      do_then z h fs Q (passing z h 2 fs) (pend t one Inside e) line (u + 2) op.Call (leave ∷ value.None ∷ value.None ∷ value.None ∷ []) (of_temp (t + 6) ∷ none ∷ none ∷ none ∷ []) _ _ (less e) (omega arith) (pend_off (u + 2) e (omega arith) (omega arith))
-      (λ c g y. ap (λ q. nodes.both q (Some (value.None ∷ value.None ∷ value.None ∷ []))) (pend_less t one Inside e c g y).0)
-      (λ v. outside_of (onward_by z h Inside t one e (Holds (operand.Temp (u + 2)) v ∷ pend t one Inside e) may (λ c g y. y.1)))
+      do_then z h fs Q (passing z h 2 fs) (pend t Inside e) line (u + 2) op.Call (leave ∷ value.None ∷ value.None ∷ value.None ∷ []) (of_temp (t + 6) ∷ none ∷ none ∷ none ∷ []) _ _ (less e) (omega arith) (pend_off (u + 2) e (omega arith) (omega arith))
+      (λ c g y. ap (λ q. nodes.both q (Some (value.None ∷ value.None ∷ value.None ∷ []))) (pend_less t Inside e c g y).0)
+      (λ v. outside_of (onward_by z h Inside t e (Holds (operand.Temp (u + 2)) v ∷ pend t Inside e) may (λ c g y. y.1)))
     where
       outside_of : {gs : Facts} {r : python.R} {c : nodes.R} → CarriedTo z h (EndsAs z h 2 (λ v. Inside) Inside) gs r c → CarriedTo z h Q gs r c
       outside_of {gs} {r} {c} x = by_map z h _ _ (EndsAs z h 2 (λ v. Inside) Inside) Q r c (λ tabs s w y. y) (λ tabs. ends_map z h 2 tabs (λ v. Inside) (λ v. fs) Inside fs (λ v s w y. refit z h tabs Inside fs s w (λ q. q.1) y) (λ s w y. refit z h tabs Inside fs s w (λ q. q.1) y)) x
 
-  branch : (gs : Facts) (b : Bool) (r : python.R) → ((c : Value) (g : nodes.Frame) → Fits gs c g → g.temps (t + 2) ≡ Some (value.Bool b)) → CarriedTo z h Q gs r (choose (value.Bool b) (nodes.block_row (target z) (exits_block line t (t + 6) u)) (nodes.block_row (target z) (others_block line t one (t + 6) u))) → CarriedTo z h Q gs r (nodes.block_row (target z) (leaving_block line t one (t + 6) u))
-  branch gs b r known x = if_by z h fs t one gs (t + 2) b r (exits_block line t (t + 6) u) (others_block line t one (t + 6) u) known x
+  branch : (gs : Facts) (b : Bool) (r : python.R) → ((c : Value) (g : nodes.Frame) → Fits gs c g → g.temps (t + 2) ≡ Some (value.Bool b)) → CarriedTo z h Q gs r (choose (value.Bool b) (nodes.block_row (target z) (exits_block line t (t + 6) u)) (nodes.block_row (target z) (others_block line t (t + 6) u))) → CarriedTo z h Q gs r (nodes.block_row (target z) (leaving_block line t (t + 6) u))
+  branch gs b r known x = if_by z h fs t gs (t + 2) b r (exits_block line t (t + 6) u) (others_block line t (t + 6) u) known x
 
-  leaving_by : (e : End) → MayPend e → CarriedTo z h Q (pend t one Inside e) (leaving (source z) line leave e) (nodes.block_row (target z) (leaving_block line t one (t + 6) u))
-  leaving_by (Raised x) may = branch (pend t one Inside (Raised x)) true _ (λ c g y. y.0) (exits_by x)
-  leaving_by (Next v) may = branch (pend t one Inside (Next v)) false _ (λ c g y. y.0) (others_by (Next v) tt)
-  leaving_by (Return v) may = branch (pend t one Inside (Return v)) false _ (λ c g y. y.1.1.0) (others_by (Return v) may)
-  leaving_by (Leave i) may = branch (pend t one Inside (Leave i)) false _ (λ c g y. y.1.1.0) (others_by (Leave i) may)
+  leaving_by : (e : End) → MayPend e → CarriedTo z h Q (pend t Inside e) (leaving (source z) line leave e) (nodes.block_row (target z) (leaving_block line t (t + 6) u))
+  leaving_by (Raised x) may = branch (pend t Inside (Raised x)) true _ (λ c g y. y.0) (exits_by x)
+  leaving_by (Next v) may = branch (pend t Inside (Next v)) false _ (λ c g y. y.0) (others_by (Next v) tt)
+  leaving_by (Return v) may = branch (pend t Inside (Return v)) false _ (λ c g y. y.1.0) (others_by (Return v) tt)
+  leaving_by (Leave i) may = branch (pend t Inside (Leave i)) false _ (λ c g y. y.1.1.0) (others_by (Leave i) may)
   leaving_by (Stopped i) may = absurd may
   leaving_by Undefined may = absurd may
 
   -- a guarded row, and the call that follows each of its ends
-  pub left_by : (gs : Facts) (r : python.R) (b : tree.Block) → ReturnsConstants one b → CarriedTo z h (EndsAs z h 2 (λ v. Inside) Inside) gs r (nodes.block_row (target z) b) → CarriedTo z h Q gs (Then r (leaving (source z) line leave)) (nodes.block_row (target z) (tree.Follow (guarded t b) (leaving_block line t one (t + 6) u)))
-  left_by gs r b constants x =
+  pub left_by : (gs : Facts) (r : python.R) (b : tree.Block) → CarriedTo z h (EndsAs z h 2 (λ v. Inside) Inside) gs r (nodes.block_row (target z) b) → CarriedTo z h Q gs (Then r (leaving (source z) line leave)) (nodes.block_row (target z) (tree.Follow (guarded t b) (leaving_block line t (t + 6) u)))
+  left_by gs r b x =
       let kept : (d : ℕ) → t ≤ d → d < t + 5 → Off d Inside = (λ d a b. (λ q. let e₁ : t + 6 ≡ d = q in omega arith, off d a (omega arith))) in
-      kept_then z h Inside t one above kept Q (leaving (source z) line leave) _ (λ i. refl) refl (λ tabs i j s w y. y) (λ tabs s w. tt) leaving_by gs r _ (kept_by z h Inside t one above kept gs r b constants x)
+      kept_then z h Inside t above kept Q (leaving (source z) line leave) _ (λ i. refl) refl (λ tabs i j s w y. y) (λ tabs s w. tt) leaving_by gs r _ (kept_by z h Inside t above kept gs r b x)
 
-pub with_carried : (h : Homes) (low t ml mh il ih bl bh item line : ℕ) (one : Option Const) (caught : Option ℕ) (manager : syntax.Expression) (targets : syntax.Targets) (body : syntax.Block) (mb bind bb : tree.Block) (o : Operand) → behind h ≤ low → Within low t ml mh → Within low t il ih → Within low t bl bh → low ≤ item → item < t → ((item < il) ⊎ (ih ≤ item)) → ReturnsConstants one (tree.append bind bb) → CarriesExpression h ml mh manager mb o → CarriesGiven h il ih (operand.Temp item) (λ l v. assign_all l v targets) bind → CarriesBlock h bl bh caught body bb → CarriesStatement h low (t + 11) caught (syntax.With line manager targets body) (with_block line t one item mb o bind bb)
-with_carried h low t ml mh il ih bl bh item line one caught manager targets body mb bind bb o st wm wi wb l₁ l₂ apart constants cm ci cb =
+pub with_carried : (h : Homes) (low t ml mh il ih bl bh item line : ℕ) (caught : Option ℕ) (manager : syntax.Expression) (targets : syntax.Targets) (body : syntax.Block) (mb bind bb : tree.Block) (o : Operand) → behind h ≤ low → Within low t ml mh → Within low t il ih → Within low t bl bh → low ≤ item → item < t → ((item < il) ⊎ (ih ≤ item)) → CarriesExpression h ml mh manager mb o → CarriesGiven h il ih (operand.Temp item) (λ l v. assign_all l v targets) bind → CarriesBlock h bl bh caught body bb → CarriesStatement h low (t + 11) caught (syntax.With line manager targets body) (with_block line t item mb o bind bb)
+with_carried h low t ml mh il ih bl bh item line caught manager targets body mb bind bb o st wm wi wb l₁ l₂ apart cm ci cb =
     let g₁ = cm.grows in
     let w₁ = wm.0 in
     let w₂ = wm.1 in
@@ -140,7 +131,7 @@ with_carried h low t ml mh il ih bl bh item line one caught manager targets body
           strengthen z h 2 f₃ (Holds (operand.Temp (t + 6)) leave ∷ f₂) Q _ _ (λ c g y. (y.1.0, (y.0, y.1.1.1)))
           (do_then z h fs Q (passing z h 2 fs) f₃ line item op.Call (enter ∷ []) (of_temp (t + 5) ∷ []) _ _ (λ c g y. y.1.1) above (λ q. let e₁ : t + 5 ≡ item = q in omega arith, (λ q. let e₁ : t + 6 ≡ item = q in omega arith, off item l₁ (omega arith))) (λ c g y. ap (λ q. nodes.both q (Some [])) y.0)
           (λ v. strengthen z h 2 (known v) (Holds (operand.Temp item) v ∷ f₃) Q _ _ (λ c g y. (y.0, y.1.1))
-          (left_by z h fs line t (t + 7) one leave (omega arith) (omega arith) (λ d a b. off d (omega arith) (omega arith)) (known v) _ (tree.append bind bb) constants
+          (left_by z h fs line t (t + 7) leave (omega arith) (omega arith) (λ d a b. off d (omega arith) (omega arith)) (known v) _ (tree.append bind bb)
           (seq_to z h 0 (λ w. known v) (known v) (EndsAs z h 2 (λ w. inside) inside) _ _ bind bb (passes_to z h 0 2 (λ w. known v) (λ w. inside) (known v) inside (omega arith) (λ c g y. y.1))
           (ci.carries z (known v) v ((above, apart), side il ih wi.0 wi.1) (λ c g y. y.0))
           (λ w. strengthen z h 2 inside (known v) (EndsAs z h 2 (λ w. inside) inside) _ _ (λ c g y. y.1) (cb.carries z inside handled (side bl bh wb.0 wb.1) (handles_more caught handled fs inside (λ c g y. y.1) hd))))))))));

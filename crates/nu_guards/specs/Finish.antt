@@ -1,6 +1,5 @@
 -- The primitive statements of a clause that always runs, and of `with`.
-use Rattle.std.specs.Prelude.{ℕ, ◌+◌, [], ◌∷◌, true, false, Option, Some, None, codes}
-use Rattle.op_rules.specs.declared.constant.Const.{Const}
+use Rattle.std.specs.Prelude.{ℕ, ◌+◌, [], ◌∷◌, true, false, codes}
 use Rattle.op_rules.specs.declared.constant.Const.TheVariants as const
 use Rattle.op_rules.specs.declared.op.Op.TheVariants as op
 use Rattle.node_tree.specs.declared.node.Argument.{Argument}
@@ -9,7 +8,7 @@ use Rattle.node_tree.specs.declared.node.Operand.{Operand}
 use Rattle.node_tree.specs.declared.node.Operand.TheVariants as operand
 use Rattle.node_tree.specs.Blocks as tree
 use Rattle.nu_carries.specs.Laws.{alone}
-use Rattle.nu_guards.specs.Raises.{of_temp}
+use Rattle.nu_homes.specs.Names.{of_temp}
 use Rattle.node_redirect.specs.Redirect.{flag, redirect}
 
 -- a block in a loop, which each of its ends leaves, but for a stop
@@ -25,23 +24,18 @@ guarded t b = tree.Loop (guarded_block t b)
 abbrev pub further : ℕ → tree.Block
 further t = alone (tree.If (operand.Temp (t + 4)) (alone (tree.Leave 2)) (alone (tree.Leave 1)))
 
--- what a return gives is in the temporary, or always this constant
-abbrev pub back : ℕ → Option Const → Operand
-back t None = operand.Temp t
-back t (Some one) = operand.Const one
+abbrev pub outside : ℕ → tree.Block
+outside t = alone (tree.If (operand.Temp (t + 3)) (alone (tree.Return (operand.Temp t))) (further t))
 
-abbrev pub outside : ℕ → Option Const → tree.Block
-outside t one = alone (tree.If (operand.Temp (t + 3)) (alone (tree.Return (back t one))) (further t))
-
-abbrev pub onward : ℕ → Option Const → tree.Block
-onward t one = alone (tree.If (operand.Temp (t + 1)) (outside t one) tree.Stop)
+abbrev pub onward : ℕ → tree.Block
+onward t = alone (tree.If (operand.Temp (t + 1)) (outside t) tree.Stop)
 
 abbrev pub raised_or : ℕ → tree.Block → tree.Block
 raised_or t b = alone (tree.If (operand.Temp (t + 2)) (alone (tree.Raise (operand.Temp t))) b)
 
 -- a clause that runs after every end
-abbrev pub finally_block : ℕ → Option Const → tree.Block → tree.Block → tree.Block
-finally_block t one bb lb = tree.Follow (guarded t bb) (tree.append lb (raised_or t (onward t one)))
+abbrev pub finally_block : ℕ → tree.Block → tree.Block → tree.Block
+finally_block t bb lb = tree.Follow (guarded t bb) (tree.append lb (raised_or t (onward t)))
 
 -- `__exit__`, which stands in the temporary `leave`, is called after each end, and tells of an exception whether that ends here; by four
 -- temporaries from u on
@@ -54,15 +48,15 @@ exits_block line t leave u =
 abbrev pub none : Argument
 none = argument.Value (operand.Const const.None)
 
-abbrev pub others_block : ℕ → ℕ → Option Const → ℕ → ℕ → tree.Block
-others_block line t one leave u = tree.Follow (tree.Do (u + 2) line op.Call (of_temp leave ∷ none ∷ none ∷ none ∷ [])) (onward t one)
+abbrev pub others_block : ℕ → ℕ → ℕ → ℕ → tree.Block
+others_block line t leave u = tree.Follow (tree.Do (u + 2) line op.Call (of_temp leave ∷ none ∷ none ∷ none ∷ [])) (onward t)
 
-abbrev pub leaving_block : ℕ → ℕ → Option Const → ℕ → ℕ → tree.Block
-leaving_block line t one leave u =
-    alone (tree.If (operand.Temp (t + 2)) (exits_block line t leave u) (others_block line t one leave u))
+abbrev pub leaving_block : ℕ → ℕ → ℕ → ℕ → tree.Block
+leaving_block line t leave u =
+    alone (tree.If (operand.Temp (t + 2)) (exits_block line t leave u) (others_block line t leave u))
 
 -- what `__enter__` gives goes to `value`, which is bound; eleven temporaries
-abbrev pub with_block : ℕ → ℕ → Option Const → ℕ → tree.Block → Operand → tree.Block → tree.Block → tree.Block
-with_block line t one value mb o bind bb =
+abbrev pub with_block : ℕ → ℕ → ℕ → tree.Block → Operand → tree.Block → tree.Block → tree.Block
+with_block line t value mb o bind bb =
     tree.append mb (tree.Follow (tree.Do (t + 5) line op.Manager (argument.Value o ∷ argument.Name (codes "__enter__") ∷ [])) (tree.Follow (tree.Do (t + 6) line op.Manager (argument.Value o ∷ argument.Name (codes "__exit__") ∷ []))
-    (tree.Follow (tree.Do value line op.Call (of_temp (t + 5) ∷ [])) (tree.Follow (guarded t (tree.append bind bb)) (leaving_block line t one (t + 6) (t + 7))))))
+    (tree.Follow (tree.Do value line op.Call (of_temp (t + 5) ∷ [])) (tree.Follow (guarded t (tree.append bind bb)) (leaving_block line t (t + 6) (t + 7))))))

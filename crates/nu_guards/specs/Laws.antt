@@ -1,6 +1,5 @@
 -- What blocks carry of `for`, of `raise` and `assert`, and of `try`.
 use Rattle.std.specs.Prelude.{◌⊎◌, ℕ, ◌+◌, ◌<◌, ◌≤◌, List, Option, Some, None}
-use Rattle.op_rules.specs.declared.constant.Const.{Const}
 use Rattle.op_rules.specs.declared.constant.Const.TheVariants as const
 use Rattle.node_tree.specs.declared.node.Operand.{Operand}
 use Rattle.node_tree.specs.declared.node.Operand.TheVariants as operand
@@ -13,7 +12,6 @@ use Rattle.nu_carries.specs.Laws.{alone, Within}
 use Rattle.nu_guards.specs.Raises.{raise_block, assert_block}
 use Rattle.nu_guards.specs.Loops.{for_block}
 use Rattle.nu_homes.specs.Names.{CarriesDeletion}
-use Rattle.node_redirect.specs.Redirect.{ReturnsConstants}
 use Rattle.nu_guards.specs.Finish.{finally_block, with_block}
 use Rattle.nu_guards.specs.Tries.{try_block, clause_block, CarriesHandlers, CarriesClause}
 
@@ -38,10 +36,10 @@ pub record CarriesTries : Type 0 where
   -- the exception goes to a temporary of the clause's own first
   pub copied : (h : Homes) (low high bl bh from to : ℕ) (name : Option syntax.Caught) (body : syntax.Block) (b : tree.Block) → behind h ≤ low → Within low high bl bh → low ≤ to → to < high → ((to < bl) ⊎ (bh ≤ to)) → CarriesClause h bl bh to name body b → CarriesClause h low high from name body (tree.Follow (tree.Copy to from) b)
 
--- what runs after every end, where the body returns constants alone, or always `one`, so that the whole may stand in such a body too
+-- what runs after every end
 pub record CarriesFinishes : Type 0 where
-  pub finally : (h : Homes) (low high bl bh ll lh : ℕ) (one : Option Const) (caught : Option ℕ) (body last : syntax.Block) (bb lb : tree.Block) → behind h ≤ low → Within low high bl bh → Within low high ll lh → ReturnsConstants one bb → CarriesBlock h bl bh caught body bb → CarriesBlock h ll lh None last lb → CarriesStatement h low (high + 5) caught (syntax.Finally body last) (finally_block high one bb lb)
+  pub finally : (h : Homes) (low high bl bh ll lh : ℕ) (caught : Option ℕ) (body last : syntax.Block) (bb lb : tree.Block) → behind h ≤ low → Within low high bl bh → Within low high ll lh → CarriesBlock h bl bh caught body bb → CarriesBlock h ll lh None last lb → CarriesStatement h low (high + 5) caught (syntax.Finally body last) (finally_block high bb lb)
   -- a clause whose name is bound while its body runs, then set to None and unbound
-  pub named : (h : Homes) (low high sl sh bl bh nl nh dl dh temp : ℕ) (one : Option Const) (name : syntax.Caught) (body : syntax.Block) (sb bb nb db : tree.Block) → behind h ≤ low → Within low high sl sh → Within low high bl bh → Within low high nl nh → Within low high dl dh → ReturnsConstants one bb → CarriesTarget h sl sh (operand.Temp temp) (syntax.ToName name.line name.home) sb → CarriesBlock h bl bh (Some temp) body bb → CarriesTarget h nl nh (operand.Const const.None) (syntax.ToName name.line name.home) nb → CarriesDeletion h dl dh (syntax.ToName name.line name.home) db → CarriesClause h low (high + 5) temp (Some name) body (tree.append sb (finally_block high one bb (tree.append nb db)))
+  pub named : (h : Homes) (low high sl sh bl bh nl nh dl dh temp : ℕ) (name : syntax.Caught) (body : syntax.Block) (sb bb nb db : tree.Block) → behind h ≤ low → Within low high sl sh → Within low high bl bh → Within low high nl nh → Within low high dl dh → CarriesTarget h sl sh (operand.Temp temp) (syntax.ToName name.line name.home) sb → CarriesBlock h bl bh (Some temp) body bb → CarriesTarget h nl nh (operand.Const const.None) (syntax.ToName name.line name.home) nb → CarriesDeletion h dl dh (syntax.ToName name.line name.home) db → CarriesClause h low (high + 5) temp (Some name) body (tree.append sb (finally_block high bb (tree.append nb db)))
   -- the target is bound to what `__enter__` gives, which goes to `item`
-  pub with_item : (h : Homes) (low high ml mh il ih bl bh item line : ℕ) (one : Option Const) (caught : Option ℕ) (manager : syntax.Expression) (targets : syntax.Targets) (body : syntax.Block) (mb bind bb : tree.Block) (o : Operand) → behind h ≤ low → Within low high ml mh → Within low high il ih → Within low high bl bh → low ≤ item → item < high → ((item < il) ⊎ (ih ≤ item)) → ReturnsConstants one (tree.append bind bb) → CarriesExpression h ml mh manager mb o → CarriesGiven h il ih (operand.Temp item) (λ l v. assign_all l v targets) bind → CarriesBlock h bl bh caught body bb → CarriesStatement h low (high + 11) caught (syntax.With line manager targets body) (with_block line high one item mb o bind bb)
+  pub with_item : (h : Homes) (low high ml mh il ih bl bh item line : ℕ) (caught : Option ℕ) (manager : syntax.Expression) (targets : syntax.Targets) (body : syntax.Block) (mb bind bb : tree.Block) (o : Operand) → behind h ≤ low → Within low high ml mh → Within low high il ih → Within low high bl bh → low ≤ item → item < high → ((item < il) ⊎ (ih ≤ item)) → CarriesExpression h ml mh manager mb o → CarriesGiven h il ih (operand.Temp item) (λ l v. assign_all l v targets) bind → CarriesBlock h bl bh caught body bb → CarriesStatement h low (high + 11) caught (syntax.With line manager targets body) (with_block line high item mb o bind bb)

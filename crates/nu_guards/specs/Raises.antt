@@ -8,9 +8,7 @@ use Rattle.node_tree.specs.declared.node.Operand.TheVariants as operand
 use Rattle.node_tree.specs.Blocks as tree
 use Rattle.nu_carries.specs.Carries.{Carrier, joined}
 use Rattle.nu_carries.specs.Laws.{alone, if_block}
-
-abbrev pub of_temp : ℕ → Argument
-of_temp t = argument.Value (operand.Temp t)
+use Rattle.nu_homes.specs.Names.{of_temp}
 
 -- what an operand holds is raised, by two temporaries from this one on
 abbrev pub raise_block : ℕ → ℕ → Operand → tree.Block

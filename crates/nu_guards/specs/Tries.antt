@@ -14,7 +14,7 @@ use Rattle.py_meaning.specs.Statements.{block, handler, caught}
 use Rattle.nu_carries.specs.Frames.{Homes, behind, Facts, Outside}
 use Rattle.nu_carries.specs.Carries.{Setting, source, target, Carried, Knows}
 use Rattle.nu_carries.specs.Laws.{alone}
-use Rattle.nu_guards.specs.Raises.{of_temp}
+use Rattle.nu_homes.specs.Names.{of_temp}
 use Rattle.nu_guards.specs.Loops.{attempt}
 
 -- by two temporaries: of the exception, and whether there was one

@@ -14,7 +14,7 @@ use Rattle.py_meaning.specs.Bodies as bodies
 use Rattle.nu_carries.specs.Frames.{Homes, HaveRoom, local_at, free_at, begun, FramesAs}
 use Rattle.nu_carries.specs.Carries.{Setting, source, target, BegunAs}
 use Rattle.nu_carries.proofs.Facts.{local_cases}
-use Rattle.nu_homes.specs.Begun.{BeginAs, HaveHomes}
+use Rattle.nu_homes.specs.Begun.{HaveHomes}
 use Rattle.nu_homes.proofs.Stages.{at_before}
 
 -- Lists
@@ -63,6 +63,7 @@ module _ (code : ℕ) (given cells : List Value) where
         code = refl;
         count = omega arith;
         made = refl;
+        rest = λ place l. at_rest (take h.params given) (h.locals - h.params) place (omega arith);
         locals = λ place l. let home : local_at h place ≡ place = param_home place l in
             ap (λ i. slice_get (take h.params given ++ take h.frees cells) i) home
             ∙ get_front (take h.params given) (take h.frees cells) place (omega arith)
@@ -79,12 +80,8 @@ module _ (code : ℕ) (given cells : List Value) where
           (λ (q : (h.params ≤ place) × (local_at h place ≡ h.frees + h.owns + place)). let a = q.0 in absurd (omega arith))
           (local_cases h place)
 
-  begin_alike : (h : Homes) → HaveRoom h → (a b : Bool) → nat_le h.params (length given) ≡ a → nat_le h.frees (length cells) ≡ b → BeginAs h (if a && b then Some (source_frame h.params h.locals h.frees) else None) (if a && b then Some (target_frame h.params h.frees) else None)
-  begin_alike h room true true ea eb =
-      let n : length (take h.params given) ≡ h.params = length-take-le h.params given (leb-true h.params (length given) ea) in (
-        frames_alike h room (leb-true h.params (length given) ea) (leb-true h.frees (length cells) eb),
-        λ place l. at_rest (take h.params given) (h.locals - h.params) place (omega arith),
-      )
+  begin_alike : (h : Homes) → HaveRoom h → (a b : Bool) → nat_le h.params (length given) ≡ a → nat_le h.frees (length cells) ≡ b → BegunAs h (if a && b then Some (source_frame h.params h.locals h.frees) else None) (if a && b then Some (target_frame h.params h.frees) else None)
+  begin_alike h room true true ea eb = frames_alike h room (leb-true h.params (length given) ea) (leb-true h.frees (length cells) eb)
   begin_alike h room true false ea eb = tt
   begin_alike h room false true ea eb = tt
   begin_alike h room false false ea eb = tt
@@ -95,22 +92,17 @@ module _ (code : ℕ) (given cells : List Value) where
   abbrev target_begun : ℕ → ℕ → Option nodes.Frame
   target_begun params frees = if nat_le params (length given) && nat_le frees (length cells) then Some (target_frame params frees) else None
 
-  codes_alike : (h : Homes) (c : syntax.Code) (k : NodeCode) → HaveRoom h → HaveHomes h c k → BeginAs h (bodies.begun_frame code given cells (Some c)) (node_run.begun_frame code given cells (Some k))
+  codes_alike : (h : Homes) (c : syntax.Code) (k : NodeCode) → HaveRoom h → HaveHomes h c k → BegunAs h (bodies.begun_frame code given cells (Some c)) (node_run.begun_frame code given cells (Some k))
   codes_alike h c k room homes =
-      subst (λ n. BeginAs h (source_begun n c.locals c.frees) (target_begun (length k.params) k.free)) (sym homes.params)
-      (subst (λ n. BeginAs h (source_begun h.params n c.frees) (target_begun (length k.params) k.free)) (sym homes.locals)
-      (subst (λ n. BeginAs h (source_begun h.params h.locals n) (target_begun (length k.params) k.free)) (sym homes.frees)
-      (subst (λ n. BeginAs h (source_begun h.params h.locals h.frees) (target_begun n k.free)) (sym homes.given)
-      (subst (λ n. BeginAs h (source_begun h.params h.locals h.frees) (target_begun h.params n)) (sym homes.cells)
+      subst (λ n. BegunAs h (source_begun n c.locals c.frees) (target_begun (length k.params) k.free)) (sym homes.params)
+      (subst (λ n. BegunAs h (source_begun h.params n c.frees) (target_begun (length k.params) k.free)) (sym homes.locals)
+      (subst (λ n. BegunAs h (source_begun h.params h.locals n) (target_begun (length k.params) k.free)) (sym homes.frees)
+      (subst (λ n. BegunAs h (source_begun h.params h.locals h.frees) (target_begun n k.free)) (sym homes.given)
+      (subst (λ n. BegunAs h (source_begun h.params h.locals h.frees) (target_begun h.params n)) (sym homes.cells)
       (begin_alike h room (nat_le h.params (length given)) (nat_le h.frees (length cells)) refl refl)))))
 
-pub begins_alike : (z : Setting) (code : ℕ) (c : syntax.Code) (k : NodeCode) → slice_get z.codes code ≡ Some c → slice_get z.script.codes code ≡ Some k → HaveRoom (z.homes code) → HaveHomes (z.homes code) c k → (given cells : List Value) → BeginAs (z.homes code) ((source z).frame code given cells) ((target z).frame code given cells)
+pub begins_alike : (z : Setting) (code : ℕ) (c : syntax.Code) (k : NodeCode) → slice_get z.codes code ≡ Some c → slice_get z.script.codes code ≡ Some k → HaveRoom (z.homes code) → HaveHomes (z.homes code) c k → (given cells : List Value) → BegunAs (z.homes code) ((source z).frame code given cells) ((target z).frame code given cells)
 begins_alike z code c k ec ek room homes given cells =
-    subst (λ o. BeginAs (z.homes code) (bodies.begun_frame code given cells o) ((target z).frame code given cells)) (sym ec)
-    (subst (λ o. BeginAs (z.homes code) (bodies.begun_frame code given cells (Some c)) (node_run.begun_frame code given cells o)) (sym ek)
+    subst (λ o. BegunAs (z.homes code) (bodies.begun_frame code given cells o) ((target z).frame code given cells)) (sym ec)
+    (subst (λ o. BegunAs (z.homes code) (bodies.begun_frame code given cells (Some c)) (node_run.begun_frame code given cells o)) (sym ek)
     (codes_alike code given cells (z.homes code) c k room homes))
-
-pub begin_frames : (h : Homes) (f : Option python.Frame) (g : Option nodes.Frame) → BeginAs h f g → BegunAs h f g
-begin_frames h None None x = tt
-begin_frames h (Some f) (Some g) x = x.0
-begin_frames h f g x = absurd x

@@ -27,9 +27,9 @@ use Rattle.nu_carries.proofs.Sequence.{reads_by}
 use Rattle.nu_carries.proofs.Statements.{return_carried}
 use Rattle.nu_carries.proofs.Codes.{body_ends}
 use Rattle.nu_homes.specs.Names.{of_temp}
-use Rattle.nu_homes.specs.Begun.{unset_block, filled_block, cells_block, begun_block, HoldParams, AreWhole, Begins, CarriesFromBegin, CarriesBody}
+use Rattle.nu_homes.specs.Begun.{unset_block, filled_block, cells_block, begun_block, HoldParams, AreWhole, CarriesBody}
 use Rattle.nu_homes.proofs.Made.{Results, operation_from, line_from, free_written}
-use Rattle.nu_homes.proofs.Stages.{at_stage, cell_free, unset_filled, cell_made, at_behind}
+use Rattle.nu_homes.proofs.Stages.{at_stage, cell_free, unset_filled, cell_made}
 
 module _ (z : Setting) (h : Homes) where
   -- the first statements of a code: an end other than a value is one of its body
@@ -77,20 +77,14 @@ module _ (z : Setting) (h : Homes) where
         (line_from z h (Staged filled made fs) outer caller line _ _ (operation_from z h (Staged filled made fs) outer caller o (λ f. vs) args (λ tabs s t x. known s.frame.carried t.frame x.frames.facts)))
 
   -- the local variables behind the parameters get their temporaries
-  unsets_carried : (r : python.R) (b : tree.Block) (more place : ℕ) → place + more ≡ h.locals → h.params ≤ place → CarriedBy z h (Staged h.locals 0 []) (BodyEnds z) r (nodes.block_row (target z) b) → CarriedBy z h (λ tabs s t. Staged place 0 [] tabs s t × ((i : ℕ) → place ≤ i → python.at s.frame.locals i ≡ value.Unset)) (BodyEnds z) r (nodes.block_row (target z) (unset_block h place more b))
-  unsets_carried r b zero place e le x =
+  unsets_carried : (r : python.R) (b : tree.Block) (more place : ℕ) → place + more ≡ h.locals → CarriedBy z h (Staged h.locals 0 []) (BodyEnds z) r (nodes.block_row (target z) b) → CarriedBy z h (Staged place 0 []) (BodyEnds z) r (nodes.block_row (target z) (unset_block h place more b))
+  unsets_carried r b zero place e x =
       let e₁ : place ≡ h.locals = omega arith in
-      by_map z h _ _ (BodyEnds z) (BodyEnds z) r _ (λ tabs s t y. subst (λ n. Staged n 0 [] tabs s t) e₁ y.0) (λ tabs e s e' t y. y) x
-  unsets_carried r b (suc more) place e le x =
-      right_by z h _ (λ w tabs s t. Staged (place + 1) 0 [] tabs s t × ((i : ℕ) → place + 1 ≤ i → python.at s.frame.locals i ≡ value.Unset)) (BodyEnds z) r _ (λ w. nodes.block_row (target z) (unset_block h (place + 1) more b))
-      (λ tabs s t y. (
-        refl,
-        (
-          record { frames = unset_filled h place s.frame t.frame (omega arith) (y.1 place (omega arith)) y.0.frames; around = y.0.around },
-          λ i li. y.1 i (omega arith),
-        ),
-      ))
-      (λ w. unsets_carried r b more (place + 1) (omega arith) (omega arith) x)
+      by_map z h _ _ (BodyEnds z) (BodyEnds z) r _ (λ tabs s t y. subst (λ n. Staged n 0 [] tabs s t) e₁ y) (λ tabs e s e' t y. y) x
+  unsets_carried r b (suc more) place e x =
+      right_by z h _ (λ w. Staged (place + 1) 0 []) (BodyEnds z) r _ (λ w. nodes.block_row (target z) (unset_block h (place + 1) more b))
+      (λ tabs s t y. (refl, record { frames = unset_filled h place s.frame t.frame (omega arith) y.frames; around = y.around }))
+      (λ w. unsets_carried r b more (place + 1) (omega arith) x)
 
   module _ (line t : ℕ) (room : HaveRoom h) (above : behind h ≤ t) (r : python.R) (b : tree.Block) (x : CarriedBy z h (Staged h.locals h.owns []) (BodyEnds z) r (nodes.block_row (target z) b)) where
     -- a cell that is made gets its parameter, if it has one
@@ -138,15 +132,14 @@ module _ (z : Setting) (h : Homes) where
         others_hold (Some place) owns hold = hold.1
 
   -- a code begins, and then its body runs
-  begun_carried : (line t more : ℕ) (owns : List (Option ℕ)) (r : python.R) (b : tree.Block) → HaveRoom h → AreWhole h more owns → behind h ≤ t → CarriedBy z h (λ tabs. Correspond z h tabs []) (BodyEnds z) r (nodes.block_row (target z) b) → CarriedBy z h (Begins z h) (BodyEnds z) (bodies.with_cells (source z) line owns r) (nodes.block_row (target z) (begun_block h line t more owns b))
+  begun_carried : (line t more : ℕ) (owns : List (Option ℕ)) (r : python.R) (b : tree.Block) → HaveRoom h → AreWhole h more owns → behind h ≤ t → CarriedBy z h (λ tabs. Correspond z h tabs []) (BodyEnds z) r (nodes.block_row (target z) b) → CarriedBy z h (λ tabs. Correspond z (begun h) tabs []) (BodyEnds z) (bodies.with_cells (source z) line owns r) (nodes.block_row (target z) (begun_block h line t more owns b))
   begun_carried line t more owns r b room whole above x =
       let count : length owns ≡ h.owns = whole.owns in
       let none : 0 + length owns ≡ h.owns = omega arith in
-      by_map z h _ (Begins z h) (BodyEnds z) (BodyEnds z) _ _ (λ tabs s u y. (y.states, y.unset)) (λ tabs e s e' u y. y)
-      (unsets_carried _ _ more h.params whole.locals (omega arith)
+      unsets_carried _ _ more h.params whole.locals
       (cells_carried line t room above r b
       (by_map z h _ _ (BodyEnds z) (BodyEnds z) r _ (λ tabs s u y. subst (λ n. Correspond z (at_stage h n h.made) tabs [] s u) (sym whole.filled) (subst (λ n. Correspond z (at_stage h h.locals n) tabs [] s u) (sym whole.made) y)) (λ tabs e s e' u y. y) x)
-      owns 0 none whole.hold))
+      owns 0 none whole.hold)
 
 pub statements_carried : (z : Setting) (h : Homes) (low high : ℕ) (body : syntax.Block) (b : tree.Block) → CarriesBlock h low high None body b → CarriesBody z h (syntax.Statements body) b
 statements_carried z h low high body b x = by_map z h _ _ (EndsAs z h 2 (λ v. []) []) (BodyEnds z) _ _ (λ tabs s t y. y) (body_ends z h 2 (λ v. []) []) (x.carries z [] None tt tt)
@@ -154,15 +147,9 @@ statements_carried z h low high body b x = by_map z h _ _ (EndsAs z h 2 (λ v. [
 pub value_carried : (z : Setting) (h : Homes) (low high : ℕ) (x : syntax.Expression) (b : tree.Block) (o : Operand) → CarriesExpression h low high x b o → CarriesBody z h (syntax.Value' x) (tree.append b (alone (tree.Return o)))
 value_carried z h low high x b o c = by_map z h _ _ (EndsAs z h 2 (λ v. []) []) (BodyEnds z) _ _ (λ tabs s t y. y) (body_ends z h 2 (λ v. []) []) ((return_carried h low high None x b o c).carries z [] None tt tt)
 
-pub code_carried : (z : Setting) (code t more : ℕ) (c : syntax.Code) (b : tree.Block) → slice_get z.codes code ≡ Some c → HaveRoom (z.homes code) → AreWhole (z.homes code) more c.owns → behind (z.homes code) ≤ t → code_block z.script.codes code ≡ begun_block (z.homes code) c.header.line t more c.owns b → CarriesBody z (z.homes code) c.body b → CarriesFromBegin z code
+pub code_carried : (z : Setting) (code t more : ℕ) (c : syntax.Code) (b : tree.Block) → slice_get z.codes code ≡ Some c → HaveRoom (z.homes code) → AreWhole (z.homes code) more c.owns → behind (z.homes code) ≤ t → code_block z.script.codes code ≡ begun_block (z.homes code) c.header.line t more c.owns b → CarriesBody z (z.homes code) c.body b → CarriesCode z code
 code_carried z code t more c b ec room whole above eb x =
     let h = z.homes code in
-    subst (λ k. CarriedBy z h (Begins z h) (BodyEnds z) (bodies.code_row (source z) k) (nodes.block_row (target z) (code_block z.script.codes code))) (sym ec)
-    (subst (λ d. CarriedBy z h (Begins z h) (BodyEnds z) (bodies.code_row (source z) (Some c)) (nodes.block_row (target z) d)) (sym eb)
+    subst (λ k. CarriedBy z h (λ tabs. Correspond z (begun h) tabs []) (BodyEnds z) (bodies.code_row (source z) k) (nodes.block_row (target z) (code_block z.script.codes code))) (sym ec)
+    (subst (λ d. CarriedBy z h (λ tabs. Correspond z (begun h) tabs []) (BodyEnds z) (bodies.code_row (source z) (Some c)) (nodes.block_row (target z) d)) (sym eb)
     (begun_carried z h c.header.line t more c.owns _ b room whole above x))
-
-pub whole_carried : (z : Setting) (code : ℕ) → (z.homes code).locals ≡ (z.homes code).params → CarriesFromBegin z code → CarriesCode z code
-whole_carried z code e x =
-    by_map z (z.homes code) (Begins z (z.homes code)) (λ tabs. Correspond z (begun (z.homes code)) tabs []) (BodyEnds z) (BodyEnds z) _ _
-    (λ tabs s t y. let n : length s.frame.locals ≡ (z.homes code).locals = y.frames.count in record { states = y; unset = λ place l. at_behind s.frame.locals place (omega arith) })
-    (λ tabs e s e' t y. y) x

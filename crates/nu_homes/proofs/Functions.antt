@@ -109,7 +109,7 @@ module _ (z : Setting) (h : Homes) (n : ℕ) (k : Value → Facts) where
       let l : to + 1 ≤ put_end (to + 1) xs = put_end_grows (to + 1) xs in
       then_carried z h n (λ v. fs) k fs _ _ _ _ (λ v c g w. w)
       (weaken z h n (λ v. Holds (operand.Temp to) v ∷ fs) (λ v. fs) fs _ _ (λ v. forget (Holds (operand.Temp to) v) fs)
-      (operate_carried z h n fs line op.Put (d ∷ python.text q.0 ∷ q.1 ∷ []) to (of_temp dict ∷ argument.Name name ∷ argument.Value p.value ∷ []) st (outside_off h to top to fs (omega arith) (omega arith) out)
+      (operate_carried z h n fs line op.Put (d ∷ python.text q.0 ∷ q.1 ∷ []) to (of_temp dict ∷ argument.Value (operand.Const (const.Str name)) ∷ argument.Value p.value ∷ []) st (outside_off h to top to fs (omega arith) (omega arith) out)
       (λ c g w.
       ap (λ u. nodes.both u (nodes.both (Some (python.text name)) (nodes.both (nodes.held g p.value) (Some [])))) (made c g w)
       ∙ ap (λ u. nodes.both (Some d) (nodes.both (Some (python.text name)) (nodes.both u (Some [])))) (know.1 c g w)

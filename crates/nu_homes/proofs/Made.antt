@@ -52,6 +52,7 @@ free_written h d v fs gs f g free facts x = record {
   code = x.code;
   count = x.count;
   made = x.made;
+  rest = x.rest;
   locals = λ place l. put_other g.temps d v (local_at h place) (free.locals place l) ∙ x.locals place l;
   owns = λ place l. put_other g.temps d v (own_at h place) (free.owns place l) ∙ x.owns place l;
   frees = λ place l. put_other g.temps d v (free_at h place) (free.frees place l) ∙ x.frees place l;

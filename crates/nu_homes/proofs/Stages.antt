@@ -41,15 +41,16 @@ cell_free h filled place l = record {
   frees = λ i li e. let e₁ : free_at h i ≡ own_at h place = e in omega arith;
 }
 
--- a local variable that is Unset gets its temporary
-pub unset_filled : (h : Homes) (place : ℕ) (f : python.Frame) (g : nodes.Frame) → place < h.locals → python.at f.locals place ≡ value.Unset → FramesAs (at_stage h place 0) [] f g → FramesAs (at_stage h (place + 1) 0) [] f (nodes.write g (local_at h place) value.Unset)
-unset_filled h place f g l unset x =
+-- a local variable, which is Unset yet, gets its temporary
+pub unset_filled : (h : Homes) (place : ℕ) (f : python.Frame) (g : nodes.Frame) → place < h.locals → FramesAs (at_stage h place 0) [] f g → FramesAs (at_stage h (place + 1) 0) [] f (nodes.write g (local_at h place) value.Unset)
+unset_filled h place f g l x =
     let kept : FramesAs (at_stage h place 0) [] f (nodes.write g (local_at h place) value.Unset) = free_written (at_stage h place 0) (local_at h place) value.Unset [] [] f g (local_free h place 0 (omega arith)) tt x in
     record {
       room = record { params = x.room.params; filled = omega arith; made = x.room.made };
       code = x.code;
       count = x.count;
       made = x.made;
+      rest = λ i le. x.rest i (omega arith);
       locals = λ i li. go kept i li (nat_eq i place) refl;
       owns = kept.owns;
       frees = kept.frees;
@@ -59,7 +60,7 @@ unset_filled h place f g l unset x =
     go : FramesAs (at_stage h place 0) [] f (nodes.write g (local_at h place) value.Unset) → (i : ℕ) → i < place + 1 → (b : Bool) → nat_eq i place ≡ b → nodes.put g.temps (local_at h place) value.Unset (local_at h i) ≡ Some (python.at f.locals i)
     go kept i li true e =
         subst (λ j. nodes.put g.temps (local_at h place) value.Unset (local_at h j) ≡ Some (python.at f.locals j)) (sym (eqb-true i place e))
-        (put_same g.temps (local_at h place) value.Unset ∙ sym (ap (λ u. Some u) unset))
+        (put_same g.temps (local_at h place) value.Unset ∙ sym (ap (λ u. Some u) (x.rest place (omega arith))))
     go kept i li false e = let ne : i ≢ place = eqb-false i place e in kept.locals i (omega arith)
 
 at_last : (xs : List Value) (v : Value) → python.at (xs ++ v ∷ []) (length xs) ≡ v
@@ -81,6 +82,7 @@ cell_made h filled place c f g l x =
       code = x.code;
       count = x.count;
       made = omega arith;
+      rest = x.rest;
       locals = x.locals;
       owns = λ i li. go i li (nat_eq i place) refl;
       frees = x.frees;
@@ -95,9 +97,3 @@ cell_made h filled place c f g l x =
         let made : length f.owns ≡ place = x.made in
         let ne : i ≢ place = eqb-false i place e in
         x.owns i (omega arith) ∙ sym (ap (λ u. Some u) (at_before f.owns (c ∷ []) i (omega arith)))
-
--- nothing stands behind a list
-pub at_behind : (xs : List Value) (i : ℕ) → length xs ≤ i → python.at xs i ≡ value.Unset
-at_behind [] i l = refl
-at_behind (x ∷ xs) zero l = absurd (omega arith)
-at_behind (x ∷ xs) (suc i) l = at_behind xs i (omega arith)

@@ -1,16 +1,13 @@
 -- What stands before the body of a code: its cells are made, and its local variables are Unset.
-use Rattle.std.specs.Prelude.{◌≡◌, ℕ, zero, suc, ◌+◌, ◌<◌, ◌≤◌, List, [], ◌∷◌, length, Option, Some, None, slice_get}
-use Rattle.nu_value.specs.declared.value.Value.TheVariants as value
+use Rattle.std.specs.Prelude.{◌≡◌, ℕ, zero, suc, ◌+◌, ◌<◌, List, [], ◌∷◌, length, Option, Some, None}
 use Rattle.op_rules.specs.declared.op.Op.TheVariants as op
 use Rattle.node_tree.specs.declared.script.NodeCode.{NodeCode}
 use Rattle.node_tree.specs.Blocks as tree
 use Rattle.node_tree.specs.Nodes as nodes
-use Rattle.node_tree.specs.Tree.{code_block}
 use Rattle.py_meaning.specs.Syntax as syntax
-use Rattle.py_meaning.specs.Frames as python
 use Rattle.py_meaning.specs.Bodies as bodies
-use Rattle.nu_carries.specs.Frames.{Homes, local_at, own_at, begun, FramesAs}
-use Rattle.nu_carries.specs.Carries.{Setting, source, target, S, T, Tables, Correspond, BodyEnds, CarriedBy}
+use Rattle.nu_carries.specs.Frames.{Homes, local_at, own_at}
+use Rattle.nu_carries.specs.Carries.{Setting, source, target, Correspond, BodyEnds, CarriedBy}
 use Rattle.nu_homes.specs.Names.{of_temp}
 
 -- so many local variables, from this one on, are Unset, which scripts see alone
@@ -46,17 +43,6 @@ pub record AreWhole (h : Homes) (more : ℕ) (cells : List (Option ℕ)) : Type 
   pub made : h.made ≡ h.owns
   pub hold : HoldParams h.params cells
 
--- a code begins: its local variables behind the parameters are Unset
-pub record Begins (z : Setting) (h : Homes) (tabs : Tables) (s : S) (t : T) : Type 0 where
-  pub states : Correspond z (begun h) tabs [] s t
-  pub unset : (place : ℕ) → h.params ≤ place → python.at s.frame.locals place ≡ value.Unset
-
--- two frames with which a code begins so
-abbrev pub BeginAs : Homes → Option python.Frame → Option nodes.Frame → Type 0
-BeginAs h None None = Unit {0}
-BeginAs h (Some f) (Some g) = FramesAs (begun h) [] f g × ((place : ℕ) → h.params ≤ place → python.at f.locals place ≡ value.Unset)
-BeginAs h f g = ⊥
-
 -- what stands before a code and its nodes has the homes of the code
 pub record HaveHomes (h : Homes) (c : syntax.Code) (k : NodeCode) : Type 0 where
   pub params : length c.header.params ≡ h.params
@@ -64,11 +50,6 @@ pub record HaveHomes (h : Homes) (c : syntax.Code) (k : NodeCode) : Type 0 where
   pub frees : c.frees ≡ h.frees
   pub cells : k.free ≡ h.frees
   pub locals : c.locals ≡ h.locals
-
--- the code of this number is carried from where it begins so
-abbrev pub CarriesFromBegin : Setting → ℕ → Type 0
-CarriesFromBegin z code =
-    CarriedBy z (z.homes code) (Begins z (z.homes code)) (BodyEnds z) (bodies.code_row (source z) (slice_get z.codes code)) (nodes.block_row (target z) (code_block z.script.codes code))
 
 -- the body of a code is carried, from where its local variables and cells have their temporaries
 abbrev pub CarriesBody : Setting → Homes → syntax.Body → tree.Block → Type 0

@@ -33,7 +33,7 @@ CarriesNamed h low high keywords ps = ⊥
 -- they go into a dict under their names, by temporaries from this one on, and the last temporary is for what follows
 abbrev pub put_block : ℕ → ℕ → ℕ → syntax.Keywords → List Carrier → (ℕ → tree.Block) → tree.Block
 put_block line dict to (syntax.Default name x keywords) (p ∷ ps) last =
-    tree.Follow (tree.Do to line op.Put (of_temp dict ∷ argument.Name name ∷ argument.Value p.value ∷ [])) (put_block line dict (to + 1) keywords ps last)
+    tree.Follow (tree.Do to line op.Put (of_temp dict ∷ argument.Value (operand.Const (const.Str name)) ∷ argument.Value p.value ∷ [])) (put_block line dict (to + 1) keywords ps last)
 put_block line dict to keywords ps last = last to
 
 abbrev pub put_end : ℕ → syntax.Keywords → ℕ

@@ -5,15 +5,13 @@ use Rattle.node_tree.specs.declared.node.Operand.{Operand}
 use Rattle.node_tree.specs.declared.node.Operand.TheVariants as operand
 use Rattle.node_tree.specs.declared.script.NodeCode.{NodeCode}
 use Rattle.node_tree.specs.Blocks as tree
-use Rattle.node_tree.specs.Nodes as nodes
 use Rattle.node_tree.specs.Tree.{code_block}
-use Rattle.py_meaning.specs.Frames as python
 use Rattle.py_meaning.specs.Syntax as syntax
 use Rattle.nu_carries.specs.Frames.{Homes, HaveRoom, behind}
 use Rattle.nu_carries.specs.Carries.{Setting, source, target, BegunAs, Carrier, CarriesExpression, CarriesTarget, CarriesStatement, CarriesBlock, CarriesAll, CarriesCode}
 use Rattle.nu_carries.specs.Laws.{alone}
 use Rattle.nu_homes.specs.Names.{HasPlace, reads, stores, unbinds, CarriesDeletion, CarriesDeletions}
-use Rattle.nu_homes.specs.Begun.{begun_block, AreWhole, CarriesFromBegin, CarriesBody, BeginAs, HaveHomes}
+use Rattle.nu_homes.specs.Begun.{begun_block, AreWhole, CarriesBody, HaveHomes}
 use Rattle.nu_homes.specs.Functions.{HasCells, CarriesNamed, put_end, function_block}
 
 -- names at every home
@@ -32,12 +30,9 @@ pub record CarriesCodes : Type 0 where
   pub statements : (z : Setting) (h : Homes) (low high : ℕ) (body : syntax.Block) (b : tree.Block) → CarriesBlock h low high None body b → CarriesBody z h (syntax.Statements body) b
   pub value : (z : Setting) (h : Homes) (low high : ℕ) (x : syntax.Expression) (b : tree.Block) (o : Operand) → CarriesExpression h low high x b o → CarriesBody z h (syntax.Value' x) (tree.append b (alone (tree.Return o)))
   -- a code is carried where its body is
-  pub begun : (z : Setting) (code t more : ℕ) (c : syntax.Code) (b : tree.Block) → slice_get z.codes code ≡ Some c → HaveRoom (z.homes code) → AreWhole (z.homes code) more c.owns → behind (z.homes code) ≤ t → code_block z.script.codes code ≡ begun_block (z.homes code) c.header.line t more c.owns b → CarriesBody z (z.homes code) c.body b → CarriesFromBegin z code
-  -- codes of any parameters, local variables and cells of enclosing functions begin so
-  pub begins : (z : Setting) (code : ℕ) (c : syntax.Code) (k : NodeCode) → slice_get z.codes code ≡ Some c → slice_get z.script.codes code ≡ Some k → HaveRoom (z.homes code) → HaveHomes (z.homes code) c k → (given cells : List Value) → BeginAs (z.homes code) ((source z).frame code given cells) ((target z).frame code given cells)
-  pub frames : (h : Homes) (f : Option python.Frame) (g : Option nodes.Frame) → BeginAs h f g → BegunAs h f g
-  -- where the local variables are the parameters, it is so from all states
-  pub whole : (z : Setting) (code : ℕ) → (z.homes code).locals ≡ (z.homes code).params → CarriesFromBegin z code → CarriesCode z code
+  pub begun : (z : Setting) (code t more : ℕ) (c : syntax.Code) (b : tree.Block) → slice_get z.codes code ≡ Some c → HaveRoom (z.homes code) → AreWhole (z.homes code) more c.owns → behind (z.homes code) ≤ t → code_block z.script.codes code ≡ begun_block (z.homes code) c.header.line t more c.owns b → CarriesBody z (z.homes code) c.body b → CarriesCode z code
+  -- codes of any parameters, local variables and cells of enclosing functions begin in both alike
+  pub begins : (z : Setting) (code : ℕ) (c : syntax.Code) (k : NodeCode) → slice_get z.codes code ≡ Some c → slice_get z.script.codes code ≡ Some k → HaveRoom (z.homes code) → HaveHomes (z.homes code) c k → (given cells : List Value) → BegunAs (z.homes code) ((source z).frame code given cells) ((target z).frame code given cells)
 
 -- functions with defaults
 abbrev pub CarriesFunctions : Type 0

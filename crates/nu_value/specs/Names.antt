@@ -1,5 +1,5 @@
 -- Names with values, each name once.
-use Rattle.std.specs.Prelude.{ℕ, ◌+◌, List, [], ◌∷◌, ◌++◌, Option, length, remove, nat_lt, if◌then◌else◌, slice_get, slice_set, option_map}
+use Rattle.std.specs.Prelude.{ℕ, ◌+◌, List, [], ◌∷◌, ◌++◌, Option, Some, None, length, remove, nat_lt, if◌then◌else◌, slice_get, slice_set, option_map}
 use Rattle.std.specs.Str.{bytes_eq}
 use Rattle.nu_value.specs.declared.value.Value.{Value}
 
@@ -18,6 +18,14 @@ value_at names name = option_map (λ p. p.1) (slice_get names (place_of names na
 abbrev pub with_name : NameList → List ℕ → Value → NameList
 with_name names name v =
     if nat_lt (place_of names name) (length names) then slice_set names (place_of names name) (name, v) else names ++ (name, v) ∷ []
+
+-- the name that stands at a place has another value
+abbrev pub revalued : NameList → ℕ → Value → Option (List ℕ × Value) → NameList
+revalued names place v None = names
+revalued names place v (Some p) = slice_set names place (p.0, v)
+
+abbrev pub with_value : NameList → ℕ → Value → NameList
+with_value names place v = revalued names place v (slice_get names place)
 
 -- the others, closed up
 abbrev pub without_name : NameList → List ℕ → NameList

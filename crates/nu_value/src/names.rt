@@ -1,7 +1,7 @@
 //! Names and their values.
 
 ghost use Rattle.std.specs.Prelude.{◌≡◌, ◌<◌, OnOk, OnErr, [], length, slice_get, option_copied, option_map};
-ghost use Rattle.nu_value.specs.Names.{place_of, value_at, with_name, without_name};
+ghost use Rattle.nu_value.specs.Names.{place_of, value_at, with_name, with_value, without_name};
 
 use crate::value::Value;
 use nu_text::RcStr;
@@ -82,6 +82,15 @@ impl Names {
             self.list.push((name, value))?;
         }
         Ok(())
+    }
+
+    /// Gives the name that stands at this place a value.
+    #[inline]
+    pub fn set_at(&mut self, place: usize, value: Value)
+        requires { place < length self.old }
+        ensures { self.new ≡ with_value self.old place value }
+    {
+        self.list[place].1 = value;
     }
 
     /// Takes out a name with its value; None where no element has it.

@@ -47,8 +47,14 @@ fn names_change(rt: HostRuntime) -> Result<(), Fail> {
     names.set(name(rt.alloc(), "b")?, Value::Int(2))?;
     assert!(rt; names.get("a").is_some());
     assert!(rt; names.remove("a").is_some());
-    assert_eq!(rt; names.at(0).ok_or("no b")?.0.as_str(), "b");
     assert_eq!(rt; names.len(), 1);
+    names.set_at(0, Value::None);
+    assert!(rt;
+        names
+            .get("b")
+            .is_some_and(|value| value.is_identical(&Value::None))
+    );
+    assert_eq!(rt; names.at(0).ok_or("no b")?.0.as_str(), "b");
     Ok(())
 }
 

@@ -1,5 +1,5 @@
 -- The stages one after another, from a resolved script to the program that is written.
-use Rattle.std.proofs.Common.{◌≡◌, ℕ, ◌≤◌, List, [], ◌∷◌, length, map, Bool, true, false, Option, Some, None, if◌then◌else◌, refl, sym, ◌∙◌, ap, subst, arith}
+use Rattle.std.proofs.Common.{◌≡◌, ℕ, ◌≤◌, List, [], ◌∷◌, length, map, Bool, true, false, Option, Some, None, Ok, if◌then◌else◌, refl, sym, ◌∙◌, ap, subst, arith}
 use Rattle.std.specs.Prelude.{◌&&◌, not}
 use Rattle.std.specs.List.{AllByRecursion}
 use Rattle.std.proofs.lemmas.List.{length-map}
@@ -12,10 +12,10 @@ use Rattle.op_rules.specs.declared.signature.ArgumentKind.{ArgumentKind}
 use Rattle.op_rules.specs.declared.signature.ArgumentKind.TheVariants as kind
 use Rattle.op_rules.specs.Signature.{arguments, further}
 use Rattle.py_ast.specs.declared.scoped.Scoped.{Scoped}
-use Rattle.py_meaning.specs.Resolved.{codes_of}
+use Rattle.py_scopes.specs.Resolve.{Answers}
 use Rattle.py_meaning.specs.Script.{py_run}
-use Rattle.py_lawful.specs.Constructs.{LawfulCodes}
-use Rattle.py_lawful.specs.Laws.{TheTableKeepsLaw, RunsNeverEndUndefined}
+use Rattle.py_safe.specs.Laws.{TheTableKeepsLaw, RunsNeverEndUndefined}
+use Rattle.py_accepted.specs.Laws.{AcceptedScriptsNeverEndUndefined}
 use Rattle.node_tree.specs.declared.node.Argument.{Argument}
 use Rattle.node_tree.specs.declared.node.Argument.TheVariants as argument
 use Rattle.node_tree.specs.declared.script.NodeCode.{NodeCode}
@@ -198,9 +198,9 @@ module _ (name : List ℕ) (s : Scoped) (tree : NodeScript) (lines : FlatScript)
 
   -- The program is the script's
 
-  module _ (law : RunsNeverEndUndefined) (table : TheTableKeepsLaw) (lowered : lowering.DoesTheSame tree lines) (cut : cutting.DoesTheSame lines code) (emitted : emitting.DoesTheSame code (program.program_of code)) (heads_kept : emitting.HasHeads code (program.program_of code)) where
-    pub is_program : LawfulCodes (codes_of 0 s) → IsProgramOf name s (program.program_of code)
-    is_program lawful = record {
+  module _ (law : RunsNeverEndUndefined) (table : TheTableKeepsLaw) (defined : AcceptedScriptsNeverEndUndefined) (lowered : lowering.DoesTheSame tree lines) (cut : cutting.DoesTheSame lines code) (emitted : emitting.DoesTheSame code (program.program_of code)) (heads_kept : emitting.HasHeads code (program.program_of code)) where
+    pub is_program : Answers s.script (Ok s) → IsProgramOf name s (program.program_of code)
+    is_program accepted = record {
       scripts = heads_kept.scripts ∙ h.scripts ∙ l.scripts ∙ r.scripts;
       headers = heads_kept.headers ∙ heads ∙ r.headers;
       same = λ input. same input;
@@ -208,8 +208,7 @@ module _ (name : List ℕ) (s : Scoped) (tree : NodeScript) (lines : FlatScript)
       where
         same : (input : List ℕ) → Same (py_run table_rules name s None input) (c_run table_rules (program.program_of code) input)
         same input =
-            let one = r.single in
-            let d0 = law.script table_rules table name s (omega (arith, one)) lawful input in
+            let d0 = defined.alone table_rules table name s.script s accepted input in
             let s1 = r.same table_rules input in
             let d1 = law.same _ _ s1 d0 in
             let s2 = lowered table_rules input d1 in

@@ -7,8 +7,9 @@ ghost use Rattle.nuit_lib.specs.Scripts.{IsResolved};
 use c_emit::emit;
 use flow_lower::lower;
 use generator_cut::cut;
+use py_accepted::accepted_scripts_never_end_undefined;
 use py_ast::Scoped;
-use py_lawful::{runs_never_end_undefined, the_table_keeps_law};
+use py_safe::{runs_never_end_undefined, the_table_keeps_law};
 use reform_all::{ReformEnd, reform};
 use std::alloc::Global;
 
@@ -19,6 +20,7 @@ pub(crate) fn compile(alloc: Global, name: &str, script: &Scoped) -> Result<Vec<
 {
     runs_never_end_undefined();
     the_table_keeps_law();
+    accepted_scripts_never_end_undefined();
     let nodes = reform(alloc, name, script)?;
     let flat = lower(alloc, &nodes)?;
     let code = cut(alloc, flat)?;

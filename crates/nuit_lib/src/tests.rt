@@ -12,8 +12,6 @@ NU_CODE(0, \"<module>\", \"\", 0, 0, 1)
 nu nu_code_0(nu_frame *fr)
 {
   return nu_end(fr);
-L0:;
-  return nu_fail(fr);
 }
 ";
 

@@ -2,9 +2,9 @@ pub mod Names
 mod Ranges
 mod Division
 mod Powers
-mod Worlds
+pub mod Worlds
 mod Bindings
-mod Plain
+pub mod Plain
 mod Keeping
 mod Start
 mod Finishing

@@ -1,5 +1,5 @@
 -- No run of an accepted script ends Undefined, since its codes are lawful.
-use Rattle.std.proofs.Common.{List, ◌++◌, Some, None, length}
+use Rattle.std.proofs.Common.{◌++◌, Some, None, length}
 use Rattle.py_meaning.specs.Script.{all_codes}
 use Rattle.py_safe.specs.Laws.{RunsNeverEndUndefined}
 use Rattle.py_accepted.specs.Laws.{role_in, AcceptedScriptsAreLawful, AcceptedScriptsNeverEndUndefined}

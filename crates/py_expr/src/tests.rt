@@ -508,31 +508,40 @@ fn whole(tokens: &[Token], end: usize, shape: &'static str) -> &'static str {
     }
 }
 
-fn refusal(end: &ParseEnd) -> &'static str {
-    match end {
-        ParseEnd::Grammar { .. } => "",
-        _ => "another refusal",
-    }
-}
-
-fn tree_of(
+fn tree_at(
     alloc: Global,
     production: Production,
     tokens: &[Token],
+    at: usize,
 ) -> Result<(Expr, usize), ParseEnd> {
+    if at > tokens.len() {
+        return Err(ParseEnd::Memory);
+    }
     match production {
-        Production::Exprs => exprs(alloc, tokens, 0),
-        Production::Targets => targets(alloc, tokens, 0),
-        Production::Target => target(alloc, tokens, 0),
-        _ => expression(alloc, tokens, 0),
+        Production::Exprs => exprs(alloc, tokens, at),
+        Production::Targets => targets(alloc, tokens, at),
+        Production::Target => target(alloc, tokens, at),
+        _ => expression(alloc, tokens, at),
     }
 }
 
-fn described(tokens: &[Token], found: &Result<(Expr, usize), ParseEnd>) -> &'static str {
+fn described(tokens: &[Token], found: &Result<(Expr, usize), ParseEnd>) -> (&'static str, u32) {
     match found {
-        Ok((tree, end)) => whole(tokens, *end, shape(tree)),
-        Err(end) => refusal(end),
+        Ok((tree, end)) => (whole(tokens, *end, shape(tree)), tree.line()),
+        Err(ParseEnd::Grammar { line }) => ("", *line),
+        Err(_) => ("another refusal", 0),
     }
+}
+
+/// The outermost node of the tree that starts at a token, with its line, or nothing with the line of the refusal.
+fn node_at(
+    alloc: Global,
+    production: Production,
+    tokens: &[Token],
+    at: usize,
+) -> (&'static str, u32) {
+    let found = tree_at(alloc, production, tokens, at);
+    described(tokens, &found)
 }
 
 /// How many parameters the tokens have.
@@ -548,7 +557,8 @@ fn counted(alloc: Global, tokens: &[Token]) -> &'static str {
             };
             whole(tokens, end, count)
         }
-        Err(end) => refusal(&end),
+        Err(ParseEnd::Grammar { .. }) => "",
+        Err(_) => "another refusal",
     }
 }
 
@@ -558,7 +568,7 @@ fn outcome(alloc: Global, production: Production, text: &str) -> Result<&'static
     let tokens = tokens_of(alloc, production, text)?;
     match production {
         Production::Params => Ok(counted(alloc, &tokens)),
-        _ => Ok(described(&tokens, &tree_of(alloc, production, &tokens))),
+        _ => Ok(node_at(alloc, production, &tokens, 0).0),
     }
 }
 
@@ -628,20 +638,18 @@ fn expression_height(alloc: Global, tokens: &[Token], depth: u32) -> u32 {
     )
 }
 
+/// Whether the front and the back make an expression as many levels higher as they stand around it.
+fn deepens(alloc: Global, front: &str, back: &str) -> Result<bool, AllocError> {
+    let tokens = nested(alloc, front, back, 40)?;
+    let within = expression_height(alloc, &tokens, 41);
+    let above = expression_height(alloc, &tokens, 40);
+    Ok(within == 41 && above == 0)
+}
+
 #[test]
 fn heights(rt: HostRuntime) -> Result<(), Fail> {
     for (front, back) in &LEVELS {
-        let tokens = nested(rt.alloc(), front, back, 40)?;
-        assert_eq!(rt;
-            expression_height(rt.alloc(), &tokens, 41),
-            41,
-            "{front} 1 {back}"
-        );
-        assert_eq!(rt;
-            expression_height(rt.alloc(), &tokens, 40),
-            0,
-            "{front} 1 {back}"
-        );
+        assert!(rt; deepens(rt.alloc(), front, back)?, "{front} 1 {back}");
     }
     for (text, want) in &CHAINS {
         let tokens = tokens_of(rt.alloc(), Production::Expression, text)?;
@@ -650,29 +658,18 @@ fn heights(rt: HostRuntime) -> Result<(), Fail> {
     Ok(())
 }
 
-/// The line of the tree that starts at a token, or of the refusal.
-fn line_at(alloc: Global, tokens: &[Token], at: usize) -> u32 {
-    if at > tokens.len() {
-        return 0;
-    }
-    match expression(alloc, tokens, at) {
-        Ok((tree, _)) => tree.line(),
-        Err(ParseEnd::Grammar { line }) => line,
-        Err(_) => 0,
-    }
-}
-
-/// Whether the front and the back are too high around a number 400 times, but not 399 times.
-fn reaches_the_limit(alloc: Global, front: &str, back: &str) -> Result<bool, AllocError> {
-    let high = nested(alloc, front, back, 399)?;
-    let higher = nested(alloc, front, back, 400)?;
-    Ok(expression(alloc, &high, 0).is_ok() && expression(alloc, &higher, 0).is_err())
-}
+/// Before and behind a number, with the outermost node of 399 of them.
+static LIMITS: [(&str, &str, &str); 2] = [("-", "", "Unary"), ("", "+ 1", "Add")];
 
 #[test]
 fn no_tree_is_higher_than_400(rt: HostRuntime) -> Result<(), Fail> {
-    assert!(rt; reaches_the_limit(rt.alloc(), "-", "")?);
-    assert!(rt; reaches_the_limit(rt.alloc(), "", "+ 1")?);
+    let production = Production::Expression;
+    for (front, back, node) in &LIMITS {
+        let high = nested(rt.alloc(), front, back, 399)?;
+        assert_eq!(rt; node_at(rt.alloc(), production, &high, 0).0, *node);
+        let higher = nested(rt.alloc(), front, back, 400)?;
+        assert_eq!(rt; node_at(rt.alloc(), production, &higher, 0).0, "");
+    }
     let brackets = nested(rt.alloc(), "(", ")", 100)?;
     assert_eq!(rt; expression_height(rt.alloc(), &brackets, 1), 1);
     Ok(())
@@ -694,7 +691,8 @@ fn lines(rt: HostRuntime) -> Result<(), Fail> {
     let kind = TokenKind::Newline;
     tokens.push(Token { line: 4, kind })?;
     for (at, line) in &LINES {
-        assert_eq!(rt; line_at(rt.alloc(), &tokens, *at), *line, "{at}");
+        let (_, found) = node_at(rt.alloc(), Production::Expression, &tokens, *at);
+        assert_eq!(rt; found, *line, "{at}");
     }
     Ok(())
 }

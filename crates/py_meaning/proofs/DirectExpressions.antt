@@ -1,14 +1,13 @@
 -- No step of a place in an expression leads through an item.
 use Rattle.std.proofs.Common.{ℕ, List, [], ◌∷◌, Option, Some, None, Bool, true, false}
 use Rattle.nu_value.specs.declared.value.Value.{Value}
-use Rattle.nu_value.specs.declared.value.Value.TheVariants as value
 use Rattle.op_rules.specs.declared.op.Op.{Op}
 use Rattle.nu_rows.specs.Rows.{End, Next, Leave, Raised, Return, Stopped, Undefined}
 use Rattle.nu_rows.proofs.Direct.{Direct, act_direct, yield_direct, sub_direct, loop_direct, then_direct, value_direct, choose_direct, line_direct}
 use Rattle.nu_calls.specs.Calls.{operate, yields}
 use Rattle.py_meaning.specs.Syntax as syntax
 use Rattle.py_meaning.specs.Frames.{R, L, uses, load, store, unbind}
-use Rattle.py_meaning.specs.Expressions.{is_one_of, stopped_or, unless_stopped, delegated, resumes, sends, closes, throws, thrown, woken, delegate_turn, delegate, function, put_all, bare_function, as_tuple, compared, keywords_begun, expression, each, named, compare, fill, enter, pass}
+use Rattle.py_meaning.specs.Expressions.{is_one_of, stopped_or, unless_stopped, delegated, resumes, told, sends, closes, throws, thrown, woken, delegate_turn, delegate, function, put_all, bare_function, as_tuple, compared, keywords_begun, expression, each, named, compare, fill, enter, pass}
 
 pub op_direct : (l : L) (line : ℕ) (o : Op) (args : List Value) → Direct (operate l line o args)
 op_direct l line o args = line_direct _ _ (sub_direct _) (λ x. act_direct _)
@@ -60,17 +59,17 @@ delegated_direct x = value_direct _ _ (act_direct _) (λ v. act_direct _)
 resumes_direct : (l : L) (line : ℕ) (r : R) → Direct r → Direct (resumes l line r)
 resumes_direct l line r h = unless_direct l line r _ _ h (λ v. act_direct _) delegated_direct
 
+told_direct : (l : L) (line : ℕ) (v : Value) (r other : R) → Direct r → Direct other → Direct (told l line v r other)
+told_direct l line v r other x y = value_direct _ _ (op_direct l line _ _) (λ b. choose_direct b _ _ x y)
+
 sends_direct : (l : L) (line : ℕ) (iterator v : Value) → Direct (sends l line iterator v)
-sends_direct l line iterator value.None = resumes_direct l line _ (op_direct l line _ _)
-sends_direct l line iterator v = value_direct _ _ (op_direct l line _ _) (λ s. resumes_direct l line _ (op_direct l line _ _))
+sends_direct l line iterator v = told_direct l line v _ _ (resumes_direct l line _ (op_direct l line _ _)) (value_direct _ _ (op_direct l line _ _) (λ s. resumes_direct l line _ (op_direct l line _ _)))
 
 closes_direct : (l : L) (line x : ℕ) (v : Value) → Direct (closes l line x v)
-closes_direct l line x value.None = act_direct _
-closes_direct l line x v = value_direct _ _ (op_direct l line _ _) (λ w. act_direct _)
+closes_direct l line x v = told_direct l line v _ _ (act_direct _) (value_direct _ _ (op_direct l line _ _) (λ w. act_direct _))
 
 throws_direct : (l : L) (line x : ℕ) (v : Value) → Direct (throws l line x v)
-throws_direct l line x value.None = act_direct _
-throws_direct l line x v = resumes_direct l line _ (op_direct l line _ _)
+throws_direct l line x v = told_direct l line v _ _ (act_direct _) (resumes_direct l line _ (op_direct l line _ _))
 
 thrown_direct : (l : L) (line : ℕ) (iterator : Value) (x : ℕ) → Direct (thrown l line iterator x)
 thrown_direct l line iterator x = value_direct _ _ (one_of_direct l line _ x) (λ b. choose_direct b _ _

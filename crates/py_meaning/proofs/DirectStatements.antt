@@ -19,6 +19,7 @@ mutual
   assign_direct l v (syntax.ToStarred line before star behind) =
       value_direct _ _ (op_direct l line _ _) (λ list. assign_each_direct l line list 0 before _
       (value_direct _ _ (value_direct _ _ (op_direct l line _ _) (λ w. assign_direct l w star)) (λ w. assign_each_direct l line list _ behind _ (act_direct _))))
+  assign_direct l v syntax.ToNothing = act_direct _
 
   assign_each_direct : (l : L) (line : ℕ) (list : Value) (n : ℕ) (ts : syntax.Targets) (r : R) → Direct r → Direct (assign_each l line list n ts r)
   assign_each_direct l line list n syntax.NoTarget r h = h
@@ -39,6 +40,7 @@ augment_direct l line o r (syntax.ToIndex at x y) h =
     value_direct _ _ h (λ w. value_direct _ _ (op_direct l line _ _) (λ u. op_direct l at _ _)))))
 augment_direct l line o r (syntax.ToEach at ts) h = act_direct _
 augment_direct l line o r (syntax.ToStarred at before star behind) h = act_direct _
+augment_direct l line o r syntax.ToNothing h = act_direct _
 
 mutual
   delete_direct : (l : L) (t : syntax.Target) → Direct (delete l t)
@@ -47,6 +49,7 @@ mutual
   delete_direct l (syntax.ToIndex line x y) = value_direct _ _ (expression_direct l x) (λ o. value_direct _ _ (expression_direct l y) (λ i. op_direct l line _ _))
   delete_direct l (syntax.ToEach line ts) = delete_each_direct l ts
   delete_direct l (syntax.ToStarred line before star behind) = act_direct _
+  delete_direct l syntax.ToNothing = act_direct _
 
   delete_each_direct : (l : L) (ts : syntax.Targets) → Direct (delete_each l ts)
   delete_each_direct l syntax.NoTarget = act_direct _
@@ -87,7 +90,7 @@ goes_on_direct (Raised x) = act_direct _
 goes_on_direct e = act_direct _
 
 returns_direct : (v : Value) → Direct (returns v)
-returns_direct v = uses_direct v _ (λ w. act_direct _)
+returns_direct v = act_direct _
 
 pending_direct : (e d : End) → Direct (pending e d)
 pending_direct e (Next v) = goes_on_direct e

@@ -59,21 +59,23 @@ delegated x = then_value (changes (with_carried (value.Obj x))) (λ v. ends_with
 abbrev pub resumes : L → ℕ → R → R
 resumes l line r = unless_stopped l line r delegates delegated
 
+-- one row or another, by whether a value is None
+abbrev pub told : L → ℕ → Value → R → R → R
+told l line v r other = then_value (operate l line op.Is (v ∷ value.None ∷ [])) (λ b. choose b r other)
+
 -- a value is sent: on by `next` where it is None
 abbrev pub sends : L → ℕ → Value → Value → R
-sends l line iterator value.None = resumes l line (next l line iterator)
 sends l line iterator v =
-    then_value (operate l line op.Attr (iterator ∷ text (codes "send") ∷ [])) (λ send. resumes l line (operate l line op.Call (send ∷ v ∷ [])))
+    told l line v (resumes l line (next l line iterator))
+    (then_value (operate l line op.Attr (iterator ∷ text (codes "send") ∷ [])) (λ send. resumes l line (operate l line op.Call (send ∷ v ∷ []))))
 
 -- GeneratorExit: the inner iterator is closed, where it can be
 abbrev pub closes : L → ℕ → ℕ → Value → R
-closes l line x value.None = raise_again x
-closes l line x close = then_value (operate l line op.Call (close ∷ [])) (λ v. raise_again x)
+closes l line x close = told l line close (raise_again x) (then_value (operate l line op.Call (close ∷ [])) (λ v. raise_again x))
 
 -- another exception: it is thrown into the inner iterator, where that can be
 abbrev pub throws : L → ℕ → ℕ → Value → R
-throws l line x value.None = raise_again x
-throws l line x throw = resumes l line (operate l line op.Call (throw ∷ value.Obj x ∷ []))
+throws l line x throw = told l line throw (raise_again x) (resumes l line (operate l line op.Call (throw ∷ value.Obj x ∷ [])))
 
 abbrev pub thrown : L → ℕ → Value → ℕ → R
 thrown l line iterator x =

@@ -44,7 +44,7 @@ at vs place = value_or_unset (slice_get vs place)
 abbrev pub reads : (Frame → Value) → R
 reads f = Act (λ s. record { out = []; state = s; end = Next (f s.frame) })
 
--- a value that is yielded or returned; nothing is said of Unset
+-- a value that is yielded; nothing is said of Unset
 abbrev pub used : Value → End
 used value.Unset = Undefined
 used v = Next v

@@ -129,6 +129,7 @@ abbrev mutual
   assigned (syntax.ToIndex line x y) = expression x ++ expression y ++ bare op.SetIndex
   assigned (syntax.ToEach line targets) = bare op.Unpack ++ unpacked targets
   assigned (syntax.ToStarred line before star behind) = bare op.UnpackStar ++ unpacked before ++ bare op.Index ++ assigned star ++ unpacked behind
+  assigned syntax.ToNothing = []
 
   pub unpacked : syntax.Targets → List Own
   unpacked syntax.NoTarget = []
@@ -152,6 +153,7 @@ abbrev mutual
   deleted (syntax.ToIndex line x y) = expression x ++ expression y ++ bare op.DelIndex
   deleted (syntax.ToEach line targets) = all_deleted targets
   deleted (syntax.ToStarred line before star behind) = []
+  deleted syntax.ToNothing = []
 
   pub all_deleted : syntax.Targets → List Own
   all_deleted syntax.NoTarget = []

@@ -87,7 +87,7 @@ pub record Part : Type 0 where
 
 -- what is never a target
 abbrev pub valued : (Context → Making syntax.Expression) → Part
-valued v = record { value = v; target = λ c. pure (syntax.ToEach 0 syntax.NoTarget) }
+valued v = record { value = v; target = λ c. pure syntax.ToNothing }
 
 abbrev pub constant : Value → Part
 constant v = valued (λ c. pure (syntax.Constant v))
@@ -230,7 +230,7 @@ abbrev pub index_target : Context → ℕ → Part → Subscript Part → Making
 index_target c line x (subscript.One y) = and_then (x.value c) (λ o. made (syntax.ToIndex line o) (y.value c))
 index_target c line x (subscript.Several ys) =
     and_then (x.value c) (λ o. made (λ vs. syntax.ToIndex line o (syntax.Operation line op.Tuple vs)) (values c ys))
-index_target c line x (subscript.Slice lower upper step) = pure (syntax.ToEach line syntax.NoTarget)
+index_target c line x (subscript.Slice lower upper step) = pure syntax.ToNothing
 
 -- Calls (section 6.3.4)
 

@@ -9,7 +9,7 @@ use Rattle.nu_rows.specs.Rows.{End, Next, Leave, Raised, Return, Stopped, Undefi
 use Rattle.nu_rows.specs.Words.{then_value, ends_with, choose}
 use Rattle.nu_calls.specs.Calls.{operate}
 use Rattle.py_meaning.specs.Syntax as syntax
-use Rattle.py_meaning.specs.Frames.{WhileTurn, ForTurn, R, L, uses, text, load, store, unbind}
+use Rattle.py_meaning.specs.Frames.{WhileTurn, ForTurn, R, L, text, load, store, unbind}
 use Rattle.py_meaning.specs.Expressions.{gives, truth, unless_stopped, next, raise_again, bare_function, expression, each}
 
 -- Targets (reference, section 7.2)
@@ -35,6 +35,7 @@ abbrev mutual
       assign_each l line list 0 before
       (then_value (then_value (operate l line op.Index (list ∷ number (count before) ∷ [])) (λ w. assign l w star)) (λ w.
       assign_each l line list (count before + 1) behind (gives value.None))))
+  assign l v syntax.ToNothing = ends_with Undefined
 
   -- the items of a list, from a number on, go to targets from left to right; and what follows
   pub assign_each : L → ℕ → Value → ℕ → syntax.Targets → R → R
@@ -67,13 +68,14 @@ abbrev mutual
   delete l (syntax.ToIndex line x y) = then_value (expression l x) (λ o. then_value (expression l y) (λ i. operate l line op.DelIndex (o ∷ i ∷ [])))
   delete l (syntax.ToEach line targets) = delete_each l targets
   delete l (syntax.ToStarred line before star behind) = ends_with Undefined
+  delete l syntax.ToNothing = ends_with Undefined
 
   pub delete_each : L → syntax.Targets → R
   delete_each l syntax.NoTarget = gives value.None
   delete_each l (syntax.AlsoTo t ts) = then_value (delete l t) (λ w. delete_each l ts)
 
 abbrev pub returns : Value → R
-returns v = uses v (λ w. ends_with (Return w))
+returns v = ends_with (Return v)
 
 -- Loops (reference, sections 8.2 and 8.3)
 

@@ -82,6 +82,8 @@ mutual
     ToEach : (line : ℕ) (targets : Targets) → Target
     -- with a star before the one in the middle
     ToStarred : (line : ℕ) (before : Targets) (star : Target) (behind : Targets) → Target
+    -- what is no target: nothing is said of it
+    ToNothing : Target
 
   pub data Targets : Type 0 where
     NoTarget : Targets

@@ -84,6 +84,7 @@ module _ (inner : ℕ → Option syntax.Code) where
     target (syntax.ToIndex line x y) = expression x ++ expression y
     target (syntax.ToEach line ts) = targets ts
     target (syntax.ToStarred line before star behind) = targets before ++ target star ++ targets behind
+    target syntax.ToNothing = []
 
     pub targets : syntax.Targets → Texts
     targets syntax.NoTarget = []

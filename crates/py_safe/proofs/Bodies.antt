@@ -12,7 +12,7 @@ use Rattle.op_rules.specs.declared.end.After.{After}
 use Rattle.nu_rows.specs.Rows.{Next, Step, How, Begin, Back, Res, Spent, Paused, Ended, left_by, entered, run}
 use Rattle.nu_calls.specs.Surroundings.{Scene, kept_at, keep_at, with_kept}
 use Rattle.nu_calls.specs.Ends.{runtime_error, state_set, with_state, paused_with}
-use Rattle.nu_calls.specs.Calls.{Pause, state_of, in_scene, back_in, leave_call, leave_generator, enters, calls, starts, goes_on}
+use Rattle.nu_calls.specs.Calls.{Pause, state_of, in_scene, back_in, given_back, leave_call, leave_generator, enters, calls, starts, goes_on}
 use Rattle.py_meaning.specs.Syntax as syntax
 use Rattle.py_meaning.specs.Frames.{Frame, OfCode}
 use Rattle.py_meaning.specs.Bodies.{begun_frame}
@@ -24,7 +24,7 @@ use Rattle.py_safe.proofs.Growth.{set_same, known_within, grows_refl, grows_tran
 use Rattle.py_safe.proofs.Worlds.{StateSet, state_law}
 use Rattle.py_safe.proofs.Rows.{met_down}
 use Rattle.py_safe.proofs.Frames.{yields_as, begun_of, Begins, begun_law, begun_frame_is}
-use Rattle.py_safe.proofs.Scenes.{start_view, moved, FinishGives, Reached, reached_goes, Comes, call_comes, got_state, text_comes, over_comes, back}
+use Rattle.py_safe.proofs.Scenes.{start_view, moved, FinishGives, gives_back, Reached, reached_goes, Comes, call_comes, got_state, text_comes, over_comes, back}
 
 pub from_nothing : (v : View) → Grows nothing v
 from_nothing v = record { longer = omega arith; natures = λ n less. absurd (omega (arith, less)); marks = λ n less. absurd (omega (arith, less)) }
@@ -75,8 +75,8 @@ module _ (z : Program) (tabs : Tables) where
   left_call r R T h g f K after (Paused o u x p) l k gives never w d = absurd (never d.yields)
   left_call r R T h g f K after (Ended o u e) l k gives never w d =
       let grown : Grows h (seen d.marks u) = grows_trans h g (seen d.marks u) w d.grows in
-      call_comes z tabs r h (state_of f u.around) d.marks (back_in (source z) f u.around) K after e
-      (back z tabs r h f u d.marks d.world d.since d.kept grown l) (after_more h (seen d.marks u) grown after k) gives d.end
+      call_comes z tabs r h (state_of f u.around) d.marks (back_in (source z) f u.around) K after (given_back e)
+      (back z tabs r h f u d.marks d.world d.since d.kept grown l) (after_more h (seen d.marks u) grown after k) gives (gives_back (seen d.marks u) e d.end)
 
   -- ---- a resumed generator stopped
 
@@ -145,8 +145,8 @@ module _ (z : Program) (tabs : Tables) where
     left_generator closing (Spent o) d = tt
     left_generator closing (Paused o u x p) d = paused_comes u x p d closing
     left_generator closing (Ended o u e) d =
-        over_comes z tabs r h (state_of f u.around) d.marks (back_in (source z) f u.around) g closing e
-        (back z tabs r h f u d.marks d.world d.since d.kept d.grows l) d.end
+        over_comes z tabs r h (state_of f u.around) d.marks (back_in (source z) f u.around) g closing (given_back e)
+        (back z tabs r h f u d.marks d.world d.since d.kept d.grows l) (gives_back (seen d.marks u) e d.end)
 
   -- ---- entries
 

@@ -19,13 +19,12 @@ use Rattle.py_safe.proofs.Operations.{operate_right}
 use Rattle.py_safe.proofs.Names.{There, anything, there_right, there_maybe, both, value_fits}
 use Rattle.py_safe.proofs.Passing.{stays, done_right, pass_right}
 use Rattle.py_safe.proofs.Exceptions.{all_maybe, exception_fits, thrown_there, again_right}
-use Rattle.py_safe.proofs.Delegates.{uses_right}
 use Rattle.py_safe.proofs.Functions.{values_fit}
 use Rattle.py_safe.proofs.Expressions.{truth_right}
 
 module _ (z : Program) (r : Room) where
   pub returns_right : (n : ℕ) (v : View) (x : Value) → IsThere v x → RightBy z r r n Anything v (returns x)
-  returns_right n v x p = uses_right z r n Anything v x _ p (λ y g w q. pass_right z r n g (Return y) q)
+  returns_right n v x p = pass_right z r n v (Return x) p
 
   -- Loops
 

@@ -7,14 +7,14 @@ use Rattle.op_rules.specs.declared.op.Op.TheVariants as op
 use Rattle.nu_rows.specs.Rows.{End, Next, Leave, Raised, Return, Stopped, Undefined}
 use Rattle.nu_calls.specs.Calls.{operate, yields}
 use Rattle.py_meaning.specs.Frames.{Frame, DelegateTurn, R as Rw, used, uses, changes, with_carried, text, reads}
-use Rattle.py_meaning.specs.Expressions.{next, resumes, sends, closes, throws, thrown, woken, delegate_turn, delegate_loop, delegate, delegates, delegated}
+use Rattle.py_meaning.specs.Expressions.{next, resumes, told, sends, closes, throws, thrown, woken, delegate_turn, delegate_loop, delegate, delegates, delegated}
 use Rattle.py_safe.specs.Heaps.{View, Grows, IsThere, IsThrown}
 use Rattle.py_safe.specs.Rules.{IsTruth}
 use Rattle.py_safe.specs.Constructs.{Room}
 use Rattle.py_safe.proofs.Right.{Program, source, FrameLaw, Kind, EndIs, Anything, RightBy}
 use Rattle.py_safe.proofs.Growth.{grows_trans, there_more, thrown_more}
 use Rattle.py_safe.proofs.Rows.{IsNone, reads_right, changes_right, ends_right, right_map, then_right, value_right, choose_right, loop_right}
-use Rattle.py_safe.proofs.Operations.{operate_right, yields_right}
+use Rattle.py_safe.proofs.Operations.{OpGives, operate_right, yields_right}
 use Rattle.py_safe.proofs.Names.{There, there_right, there_maybe, both, value_fits}
 use Rattle.py_safe.proofs.Passing.{pass_right}
 use Rattle.py_safe.proofs.Exceptions.{thrown_there, again_right, one_of_right, unless_right}
@@ -85,33 +85,30 @@ module _ (z : Program) (r : Room) where
       (λ y g w a. carry_right 1 g y a)
       (λ e g w a. value_right z r 1 1 Anything Anything g _ _ (omega arith) (carry_right 1 g (value.Obj e) (thrown_there g e a)) (λ u g' w' b. pass_right z r 1 g' (Leave 0) (omega arith)))
 
+  told_right : (v : View) (line : ℕ) (x : Value) (row other : Rw) → IsThere v x → ((g : View) → Grows v g → RightBy z r r 1 Anything g row) → ((g : View) → Grows v g → RightBy z r r 1 Anything g other) → RightBy z r r 1 Anything v (told (source z) line x row other)
+  told_right v line x row other p a b =
+      value_right z r 0 1 (λ g t. IsTruth t) Anything v _ _ (omega arith)
+      (right_map z r r 0 0 (OpGives op.Is) (λ g t. IsTruth t) v _ (omega arith) (λ g t w y. y.truth tt)
+      (operate_right z r line op.Is (x ∷ value.None ∷ []) v (λ w marks ok g. both _ _ (value_fits v x w marks g p) refl) (there_maybe v x p, ((tt, tt), tt)) tt))
+      (λ t g w y. choose_right z r r 1 Anything g t _ _ y (a g w) (b g w))
+
   sent_right : (v : View) (line : ℕ) (iterator x : Value) → IsThere v iterator → IsThere v x → RightBy z r r 1 Anything v (sends (source z) line iterator x)
-  sent_right v line iterator value.Unset p q = absurd q.0
-  sent_right v line iterator value.None p q = resumes_right v line _ (next_right v line iterator p)
-  sent_right v line iterator (value.Bool b) p q =
-      value_right z r 0 1 There Anything v _ _ (omega arith) (attribute_right v line iterator (codes "send") p) (λ f g w a. resumes_right g line _ (call_one g line f (value.Bool b) a q))
-  sent_right v line iterator (value.Int i) p q =
-      value_right z r 0 1 There Anything v _ _ (omega arith) (attribute_right v line iterator (codes "send") p) (λ f g w a. resumes_right g line _ (call_one g line f (value.Int i) a q))
-  sent_right v line iterator (value.Str s) p q =
-      value_right z r 0 1 There Anything v _ _ (omega arith) (attribute_right v line iterator (codes "send") p) (λ f g w a. resumes_right g line _ (call_one g line f (value.Str s) a q))
-  sent_right v line iterator (value.Obj n) p q =
-      value_right z r 0 1 There Anything v _ _ (omega arith) (attribute_right v line iterator (codes "send") p) (λ f g w a. resumes_right g line _ (call_one g line f (value.Obj n) a (there_more v g w (value.Obj n) q)))
+  sent_right v line iterator x p q =
+      told_right v line x _ _ q
+      (λ g w. resumes_right g line _ (next_right g line iterator (there_more v g w iterator p)))
+      (λ g w. value_right z r 0 1 There Anything g _ _ (omega arith) (attribute_right g line iterator (codes "send") (there_more v g w iterator p)) (λ f g' w' a. resumes_right g' line _ (call_one g' line f x a (there_more g g' w' x (there_more v g w x q)))))
 
   closed_right : (v : View) (line x : ℕ) (close : Value) → IsThrown v x → IsThere v close → RightBy z r r 1 Anything v (closes (source z) line x close)
-  closed_right v line x value.None a p = again_right z r 1 Anything v x a
-  closed_right v line x value.Unset a p = absurd p.0
-  closed_right v line x (value.Bool b) a p = value_right z r 0 1 There Anything v _ _ (omega arith) (call_none v line (value.Bool b) p) (λ u g w q. again_right z r 1 Anything g x (thrown_more v g w x a))
-  closed_right v line x (value.Int i) a p = value_right z r 0 1 There Anything v _ _ (omega arith) (call_none v line (value.Int i) p) (λ u g w q. again_right z r 1 Anything g x (thrown_more v g w x a))
-  closed_right v line x (value.Str s) a p = value_right z r 0 1 There Anything v _ _ (omega arith) (call_none v line (value.Str s) p) (λ u g w q. again_right z r 1 Anything g x (thrown_more v g w x a))
-  closed_right v line x (value.Obj n) a p = value_right z r 0 1 There Anything v _ _ (omega arith) (call_none v line (value.Obj n) p) (λ u g w q. again_right z r 1 Anything g x (thrown_more v g w x a))
+  closed_right v line x close a p =
+      told_right v line close _ _ p
+      (λ g w. again_right z r 1 Anything g x (thrown_more v g w x a))
+      (λ g w. value_right z r 0 1 There Anything g _ _ (omega arith) (call_none g line close (there_more v g w close p)) (λ u g' w' q. again_right z r 1 Anything g' x (thrown_more g g' w' x (thrown_more v g w x a))))
 
   threw_right : (v : View) (line x : ℕ) (throw : Value) → IsThrown v x → IsThere v throw → RightBy z r r 1 Anything v (throws (source z) line x throw)
-  threw_right v line x value.None a p = again_right z r 1 Anything v x a
-  threw_right v line x value.Unset a p = absurd p.0
-  threw_right v line x (value.Bool b) a p = resumes_right v line _ (call_one v line (value.Bool b) (value.Obj x) p (thrown_there v x a))
-  threw_right v line x (value.Int i) a p = resumes_right v line _ (call_one v line (value.Int i) (value.Obj x) p (thrown_there v x a))
-  threw_right v line x (value.Str s) a p = resumes_right v line _ (call_one v line (value.Str s) (value.Obj x) p (thrown_there v x a))
-  threw_right v line x (value.Obj n) a p = resumes_right v line _ (call_one v line (value.Obj n) (value.Obj x) p (thrown_there v x a))
+  threw_right v line x throw a p =
+      told_right v line throw _ _ p
+      (λ g w. again_right z r 1 Anything g x (thrown_more v g w x a))
+      (λ g w. resumes_right g line _ (call_one g line throw (value.Obj x) (there_more v g w throw p) (thrown_there g x (thrown_more v g w x a))))
 
   thrown_right : (v : View) (line : ℕ) (iterator : Value) (x : ℕ) → IsThere v iterator → IsThrown v x → RightBy z r r 1 Anything v (thrown (source z) line iterator x)
   thrown_right v line iterator x p a =

@@ -5,7 +5,7 @@ use Rattle.nu_value.specs.declared.value.Value.TheVariants as value
 use Rattle.nu_rows.specs.Rows.{End, Next, Leave, Raised, Return, Stopped, Undefined, Step, Second, Begin, Res, Spent, Paused, Ended, Act, Then, shift, after, does}
 use Rattle.nu_rows.specs.Words.{on_next}
 use Rattle.nu_calls.specs.Surroundings.{scene, with_scene, with_frames}
-use Rattle.nu_calls.specs.Calls.{enters}
+use Rattle.nu_calls.specs.Calls.{enters, given_back}
 use Rattle.nu_calls.specs.Scripts.{module_begun, module_ended, module_row}
 use Rattle.py_meaning.specs.Syntax as syntax
 use Rattle.py_meaning.specs.Frames.{R as Rw}
@@ -16,7 +16,7 @@ use Rattle.py_safe.specs.Rules.{WorldLaw}
 use Rattle.py_safe.specs.Constructs.{IsFalse, Room, is_class, RunAs}
 use Rattle.py_safe.proofs.Right.{S, Program, roster, source, rows, seen, Table, room_at, AllKept, Finished, Done}
 use Rattle.py_safe.proofs.Frames.{lawful_code, yields_as, begun_of, Begins, begun_law, begun_frame_is}
-use Rattle.py_safe.proofs.Scenes.{start_view, moved}
+use Rattle.py_safe.proofs.Scenes.{start_view, moved, gives_back}
 use Rattle.py_safe.proofs.Bodies.{from_nothing}
 use Rattle.py_safe.proofs.Codes.{code_right}
 use Rattle.py_safe.proofs.Agreement.{tables, agree}
@@ -100,5 +100,10 @@ module _ (z : Program) (code : ℕ) (c : syntax.Code) (at : slice_get z.codes co
   ended_shown file next f v m (Leave i) t y = let e = y.end in absurd (omega (arith, e))
   ended_shown file next f v m Undefined t y = absurd y.end
 
+  left_shown : (file : List ℕ) (next : Rw) → ((t : S) → Ready z t → (m : ℕ) → Shown (does (rows z) next Begin t m)) → (v : View) (m : ℕ) (e : End) (t : S) → Finished z (tables z) v e t → Shown (does (rows z) (module_ended (source z) file next (given_back e)) Begin t m)
+  left_shown file next f v m e t y =
+      ended_shown file next f v m (given_back e) t
+      (record { marks = y.marks; world = y.world; since = y.since; kept = y.kept; grows = y.grows; end = gives_back (seen y.marks t) e y.end })
+
   pub module_shown : (file : List ℕ) (next : Rw) → ((t : S) → Ready z t → (m : ℕ) → Shown (does (rows z) next Begin t m)) → (s : S) → Ready z s → (m : ℕ) → Shown (does (rows z) (module_row (program z.rules z.scripts z.codes) file code next) Begin s m)
-  module_shown file next f s r m = shown_after z (seen r.marks s) _ _ (begun_over s r m) (ended_shown file next f (seen r.marks s) m)
+  module_shown file next f s r m = shown_after z (seen r.marks s) _ _ (begun_over s r m) (left_shown file next f (seen r.marks s) m)

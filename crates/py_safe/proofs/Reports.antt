@@ -18,9 +18,9 @@ use Rattle.op_rules.specs.Sound.{NamesIn, ObjectIn}
 use Rattle.nu_rows.specs.Rows.{End, Next, Leave, Raised, Return, Stopped, Undefined, Step, Second, Begin, Res, Spent, Paused, Ended, shift, after, left_by, entered, run, does}
 use Rattle.nu_rows.specs.Words.{ends_with}
 use Rattle.nu_calls.specs.Surroundings.{Scene, scene, with_heap}
-use Rattle.nu_calls.specs.Ends.{Result, Gives, Raises, Stops, Unsaid, Calls, over, ending, asked, begun, call_ended}
-use Rattle.nu_calls.specs.Calls.{state_of, in_scene, end_of, back_in, leave_call, calls}
-use Rattle.nu_calls.specs.Scripts.{report_function, report_began, asks_report, report, reported, fixes, uncaught, shows}
+use Rattle.nu_calls.specs.Ends.{Result, Ending, Gives, Raises, Stops, Unsaid, Calls, over, ending, asked, begun, call_ended}
+use Rattle.nu_calls.specs.Calls.{state_of, in_scene, end_of, back_in, given_back, leave_call, calls}
+use Rattle.nu_calls.specs.Scripts.{report_function, report_began, asks_function, asks_report, report, reported, fixes, uncaught, shows}
 use Rattle.nu_calls.specs.Traceback.{head_text}
 use Rattle.py_meaning.specs.Frames.{Frame}
 use Rattle.py_meaning.specs.Bodies.{begun_frame}
@@ -138,7 +138,9 @@ module _ (z : Program) (h : View) where
   stopped_replied : (f : Frame) (after : After) (res : Res S) → Met z (tables z) no_room 0 Anything nowhere h (left_by res (leave_call (source z) (plain f) after)) → Replied (left_by res (leave_call (source z) f after))
   stopped_replied f after (Spent o) y = tt
   stopped_replied f after (Paused o u x p) y = absurd y.end
-  stopped_replied f after (Ended o u e) y = result_reply (seen y.marks (state_of (plain f) (in_scene (state_of (plain f) u.around) (call_ended z.rules after (back_in (source z) f u.around) e).scene).around)) (call_ended z.rules after (back_in (source z) f u.around) e).result y.end
+  stopped_replied f after (Ended o u e) y =
+      let x : Ending = call_ended z.rules after (back_in (source z) f u.around) (given_back e) in
+      result_reply (seen y.marks (state_of (plain f) (in_scene (state_of (plain f) u.around) x.scene).around)) x.result y.end
 
   called_replied : (m : ℕ) (s : S) (code : ℕ) (after : After) (o : Option Frame) → Met z (tables z) no_room 0 Anything nowhere h (entered (run (rows z) m) (calls (source z) (bare s) code after o)) → Replied (entered (run (rows z) m) (calls (source z) s code after o))
   called_replied m s code after None y = absurd y.end
@@ -170,14 +172,18 @@ module _ (z : Program) (s : S) (marks : ℕ → Mark) (world : WorldLaw (roster 
     grows = grows_refl (seen marks s);
   }
 
-  asked_replied : (m : ℕ) (o : Option Value) → report_function s.around.world ≡ o → Replied (entered (run (rows z) m) (asks_report (source z) s e o))
-  asked_replied m (Some (value.Obj f)) is =
+  object_replied : (m f : ℕ) → IsThere (seen marks s) (value.Obj f) → (o : Option Object) → Replied (entered (run (rows z) m) (asks_function (source z) s e f o))
+  object_replied m f there (Some (object.Function code defaults keywords cells)) =
       let w : World = s.around.world in
-      let b = z.law.bind (roster z) w marks f (value.Obj e ∷ []) behind.Plain world (report_there z w marks world (value.Obj f) is) (thrown_there (seen marks s) e thrown, tt) tt in
+      let b = z.law.bind (roster z) w marks f (value.Obj e ∷ []) behind.Plain world there (thrown_there (seen marks s) e thrown, tt) tt in
       let answer = z.rules.bind w f (value.Obj e ∷ []) behind.Plain in
       begun_replied z (seen marks s) s marks (with_heap (scene s.around) answer.heap)
       (reached_with z (tables z) no_room (seen marks s) (bare s) marks (scene s.around) answer.heap reached (record { law = world_left (roster z) w marks answer world b.0; grows = b.0.grows; generators = b.0.generators }))
       m answer.end b.0.end b.1
+  object_replied m f there other = tt
+
+  asked_replied : (m : ℕ) (o : Option Value) → report_function s.around.world ≡ o → Replied (entered (run (rows z) m) (asks_report (source z) s e o))
+  asked_replied m (Some (value.Obj f)) is = object_replied m f (report_there z s.around.world marks world (value.Obj f) is) (slice_get (heap_of s) f)
   asked_replied m (Some value.Unset) is = tt
   asked_replied m (Some value.None) is = tt
   asked_replied m (Some (value.Bool b)) is = tt

@@ -18,7 +18,7 @@ use Rattle.nu_rows.specs.Rows.{End, Next, Leave, Raised, Return, Stopped, Undefi
 use Rattle.nu_calls.specs.Exceptions.{Thrown, exception_made, is_kind}
 use Rattle.nu_calls.specs.Surroundings.{Scene, with_heap, kept_at}
 use Rattle.nu_calls.specs.Ends.{Gives, Raises, Ending, ending, raises, raises_text, generator_exit, runtime_error, stop_iteration, state_set, with_state, returned, generator_gave, ended_body, generator_ended, at_once, answered, call_ended, module_of, world_of}
-use Rattle.nu_calls.specs.Calls.{state_of, in_scene, end_of, back_in}
+use Rattle.nu_calls.specs.Calls.{state_of, in_scene, end_of, back_in, given_back}
 use Rattle.py_meaning.specs.Frames.{Frame}
 use Rattle.py_safe.specs.Heaps.{Mark, Open, View, view, Grows, KeepsGenerators, IsThere, AllThere}
 use Rattle.py_safe.specs.Rules.{AfterLaw, MayRaise, EndLaw, IsAtOnce, Leaves, WorldLaw}
@@ -50,6 +50,20 @@ abbrev pub FinishGives : Program → Kind → View → After → Type 0
 FinishGives z K h after =
     (w : World) (marks : ℕ → Mark) (y x : Value) → Grows h (view w.heap marks) → Grows (view w.heap marks) (view (z.rules.finish after w y).heap marks) → (z.rules.finish after w y).end ≡ opend.Give x
     → IsThere (view (z.rules.finish after w y).heap marks) x → K (view (z.rules.finish after w y).heap marks) x
+
+-- a body gives back no Unset
+pub gives_back : (v : View) (e : End) → EndIs 0 Anything v e → EndIs 0 Anything v (given_back e)
+gives_back v (Return value.Unset) y = absurd y.0
+gives_back v (Return value.None) y = y
+gives_back v (Return (value.Bool b)) y = y
+gives_back v (Return (value.Int i)) y = y
+gives_back v (Return (value.Str text)) y = y
+gives_back v (Return (value.Obj n)) y = y
+gives_back v (Next x) y = y
+gives_back v (Leave i) y = y
+gives_back v (Raised x) y = y
+gives_back v (Stopped kind) y = y
+gives_back v Undefined y = y
 
 -- ---- lawful states in other scenes
 

@@ -21,10 +21,10 @@ use Rattle.op_rules.specs.declared.op.Op.{Op}
 use Rattle.op_rules.specs.declared.op.Op.TheVariants as op
 use Rattle.op_rules.specs.declared.world.World.{World}
 use Rattle.op_rules.specs.CallRows.{call_row}
-use Rattle.op_rules.specs.Comparisons.{give_bool, not_row, truth_row, object_truth}
+use Rattle.op_rules.specs.Comparisons.{give_bool, not_row, truth_row, object_truth, is_row}
 use Rattle.op_rules.specs.Finish.{finished, truth_after, length_after, is_none, made_after, tuple_after}
 use Rattle.op_rules.specs.Fits.{fits, is_cell}
-use Rattle.op_rules.specs.IntRows.{of_one}
+use Rattle.op_rules.specs.IntRows.{of_one, of_two}
 use Rattle.op_rules.specs.Laws.{after, RowsKeepSound, FinishingKeepsSound, TheStartIsSound}
 use Rattle.op_rules.specs.NameRows.{Answer, keeps, later, unbuilt, changed, names_of, not_defined, no_local, no_free, value_or, global_row, setglobal_row, with_binding, without_binding, altered, forgotten, set_or, local_row, cell_row, held, held_by, filled, emptied, named, of_name, of_name_value, of_value_name, of_none, of_two_values}
 use Rattle.op_rules.specs.Sound.{AClass as ClassSort, AnException, ACell as CellSort, ASpace as SpaceSort, sort_of, IsA, Sound, AfterIn, EndIn}
@@ -399,10 +399,15 @@ one_true : (f : Value → OpEnd) → ((v : Value) → EndIsTruth (f v)) → (arg
 one_true f p (v ∷ []) = p v
 one_true f p other = tt
 
+same_true : (args : List Value) → EndIsTruth (of_two is_row args)
+same_true (a ∷ b ∷ []) = tt
+same_true other = tt
+
 row_true : (o : Op) (w : World) (args : List Value) → GivesTruth o → EndIsTruth (row o w args).end
 row_true op.Truth w args g = one_true (truth_row w.heap) (truth_true w.heap) args
 row_true op.Not w args g = one_true not_row not_true args
 row_true op.In w args g = tt
+row_true op.Is w args g = same_true args
 row_true op.Match w args g = tt
 row_true other w args g = absurd g
 

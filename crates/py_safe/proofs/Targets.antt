@@ -56,6 +56,7 @@ module _ (z : Program) (r : Room) where
         (λ g₁ w₁. value_right z r 0 0 Anything Anything g₁ _ _ (omega arith)
         (value_right z r 0 0 There Anything g₁ _ _ (omega arith) (index_right g₁ line list (number (count before)) (there_more g g₁ w₁ list a) (tt, tt)) (λ u g₂ w₂ b. assign_right star p.1 g₂ u b))
         (λ u g₃ w₃ y. assign_each_right behind p.2 g₃ line list (count before + 1) (gives value.None) (there_more g g₃ (grows_trans g g₁ g₃ w₁ w₃) list a) (λ g' w'. done_right z r 0 g'))))
+    assign_right syntax.ToNothing p v x q = absurd p
 
     assign_each_right : (ts : syntax.Targets) → LawfulTargets (roster z) r ts → (v : View) (line : ℕ) (list : Value) (n : ℕ) (row : Rw) → IsThere v list → ((g : View) → Grows v g → RightBy z r r 0 Anything g row) → RightBy z r r 0 Anything v (assign_each (source z) line list n ts row)
     assign_each_right syntax.NoTarget p v line list n row q x = x v (grows_refl v)
@@ -96,6 +97,7 @@ module _ (z : Program) (r : Room) where
       set_index g₅ at object index k (there_more g₁ g₅ (grows_trans g₁ g₂ g₅ w₂ up) object a) (there_more g₂ g₅ up index b) e)))))
   augment_right line o (syntax.ToEach at ts) x t one p q v = absurd one
   augment_right line o (syntax.ToStarred at ts s us) x t one p q v = absurd one
+  augment_right line o syntax.ToNothing x t one p q v = absurd one
 
   -- Deletions
 
@@ -113,6 +115,7 @@ module _ (z : Program) (r : Room) where
         anything z r 0 (OpGives op.DelIndex) g' _ (operate_right z r line op.DelIndex (o ∷ i ∷ []) g' (λ u marks ok f. both _ _ (value_fits g' o u marks f c) (both _ _ (value_fits g' i u marks f b) refl)) (there_maybe g' o c, (there_maybe g' i b, tt)) tt)))
     delete_right (syntax.ToEach line ts) p v = delete_each_right ts p v
     delete_right (syntax.ToStarred line before star behind) p v = absurd p
+    delete_right syntax.ToNothing p v = absurd p
 
     delete_each_right : (ts : syntax.Targets) → LawfulDeletions (roster z) r ts → (v : View) → RightBy z r r 0 Anything v (delete_each (source z) ts)
     delete_each_right syntax.NoTarget p v = done_right z r 0 v

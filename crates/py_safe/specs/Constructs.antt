@@ -161,6 +161,7 @@ module _ (c : Roster) where
     LawfulTarget r (syntax.ToIndex line x y) = LawfulExpression r x × LawfulExpression r y
     LawfulTarget r (syntax.ToEach line ts) = LawfulTargets r ts
     LawfulTarget r (syntax.ToStarred line before star behind) = LawfulTargets r before × LawfulTarget r star × LawfulTargets r behind
+    LawfulTarget r syntax.ToNothing = ⊥
 
     pub LawfulTargets : Room → syntax.Targets → Type 0
     LawfulTargets r syntax.NoTarget = Unit {0}
@@ -170,6 +171,7 @@ module _ (c : Roster) where
   abbrev pub IsSingle : syntax.Target → Type 0
   IsSingle (syntax.ToEach line ts) = ⊥
   IsSingle (syntax.ToStarred line before star behind) = ⊥
+  IsSingle syntax.ToNothing = ⊥
   IsSingle other = Unit {0}
 
   -- what is deleted has no star
@@ -180,6 +182,7 @@ module _ (c : Roster) where
     LawfulDeletion r (syntax.ToIndex line x y) = LawfulExpression r x × LawfulExpression r y
     LawfulDeletion r (syntax.ToEach line ts) = LawfulDeletions r ts
     LawfulDeletion r (syntax.ToStarred line before star behind) = ⊥
+    LawfulDeletion r syntax.ToNothing = ⊥
 
     pub LawfulDeletions : Room → syntax.Targets → Type 0
     LawfulDeletions r syntax.NoTarget = Unit {0}

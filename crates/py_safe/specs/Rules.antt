@@ -31,6 +31,7 @@ abbrev pub GivesTruth : Op → Type 0
 GivesTruth op.Truth = Unit {0}
 GivesTruth op.Not = Unit {0}
 GivesTruth op.In = Unit {0}
+GivesTruth op.Is = Unit {0}
 GivesTruth op.Match = Unit {0}
 GivesTruth other = ⊥
 

@@ -2,7 +2,6 @@
 use Rattle.std.proofs.Common.{◌≡◌, ℕ, ◌≤◌, List, [], ◌∷◌, ◌++◌, Option, Ok, refl, sym, ap, ◌∙◌, subst, arith}
 use Rattle.nu_value.specs.declared.value.Value.TheVariants as value
 use Rattle.py_ast.specs.declared.expr.Binary.{Binary}
-use Rattle.py_ast.specs.declared.expr.Binary.TheVariants as binary
 use Rattle.py_ast.specs.declared.expr.Expr.{Expr}
 use Rattle.op_rules.specs.declared.op.Op.{Op}
 use Rattle.node_tree.specs.declared.node.Node.{Node}
@@ -20,9 +19,6 @@ use Rattle.reform_unpack.specs.Laws.{CarriesTargets}
 use Rattle.nu_carries.proofs.Sequence.{gives_carried}
 use Rattle.reform_unpack.proofs.Assignments.{target_carried, assignment_carried}
 use Rattle.reform_all.specs.Built as built
-use Rattle.py_lawful.specs.Constructs.{Room, TakesTwo, IsSingle, LawfulTarget}
-use Rattle.reform_expr.specs.declared.home.Home.TheVariants as home
-use Rattle.reform_unpack.specs.declared.place.Place.TheVariants as place
 use Rattle.reform_all.specs.Quiet.{Quiet}
 use Rattle.reform_all.proofs.Quiets.{quiet_append, quiet_nil}
 use Rattle.reform_all.specs.Expressions.{IsExpressed}
@@ -38,15 +34,8 @@ none_stored o old = record {
   means = syntax.NoTarget;
   is = λ c m next. refl;
   carries = λ h low st le. record { starts = st; grows = le; carries = λ z fs v off knows. gives_carried z h 0 (λ w. fs) fs value.None (λ c g x. x) };
-  lawful = λ r. tt;
   quiet = quiet_nil;
 }
-
-place_lawful : (at : Place) (r : Room) → LawfulTarget r (target_of at)
-place_lawful (place.Name (home.Module name) line) r = tt
-
-place_single : (at : Place) → IsSingle (target_of at)
-place_single (place.Name name line) = tt
 
 -- one more target in front
 pub more_stored : (t : Expr) (ts : List Expr) (o : Operand) (place : Place) (old mid new : ℕ) (a b : List Node) → IsPlaced t place → old ≤ mid → ((h : Homes) (low : ℕ) → behind h ≤ low → low ≤ old → CarriesTarget h low mid o (target_of place) (block a)) → Quiet a → AreStored ts o mid new b → AreStored (t ∷ ts) o old new (a ++ b)
@@ -60,7 +49,6 @@ more_stored t ts o place old mid new a b p le first q rest =
       carries = λ h low st below.
           subst (λ d. CarriesTargets h low new o (syntax.AlsoTo (target_of place) rest.means) d) (sym (block_append a b))
           (target_carried h low mid new o (target_of place) rest.means (block a) (block b) (first h low st below) (rest.carries h mid (omega arith) (omega arith)));
-      lawful = λ r. (place_lawful place r, rest.lawful r);
       quiet = quiet_append a b q rest.quiet;
     }
 
@@ -94,22 +82,8 @@ assigns names ts x old mid new p b e s =
       carries = λ c m h low caught st le.
           subst (λ d. CarriesStatement h low new caught (syntax.Assign s.means (e.means c m)) d) (sym (block_append p.block b))
           (assignment_carried h low mid new caught (e.means c m) s.means (block p.block) (block b) p.value (e.carries c m h low st le) (s.carries h mid (omega arith) (omega arith)));
-      lawful = λ c m r loop fits. (s.lawful r, e.lawful c m r);
       quiet = quiet_append p.block b (record { taken = e.taken; yields = e.yields }) s.quiet;
     }
-
-takes_two : (operator : Binary) → TakesTwo (meaning.augmented_op operator)
-takes_two binary.BitOr = record { two = refl; only = refl }
-takes_two binary.BitXor = record { two = refl; only = refl }
-takes_two binary.BitAnd = record { two = refl; only = refl }
-takes_two binary.LeftShift = record { two = refl; only = refl }
-takes_two binary.RightShift = record { two = refl; only = refl }
-takes_two binary.Add = record { two = refl; only = refl }
-takes_two binary.Subtract = record { two = refl; only = refl }
-takes_two binary.Multiply = record { two = refl; only = refl }
-takes_two binary.FloorDivide = record { two = refl; only = refl }
-takes_two binary.Remainder = record { two = refl; only = refl }
-takes_two binary.Power = record { two = refl; only = refl }
 
 pub augments : (names : List (List ℕ)) (line : ℕ) (to : Expr) (operator : Binary) (o : Op) (x : Expr) (old mid new : ℕ) (place : Place) (p : Part) (b : List Node) → o ≡ meaning.augmented_op operator → mid ≤ new → IsPlaced to place → IsExpressed names x old mid p → ((h : Homes) (low high : ℕ) (caught : Option ℕ) (y : syntax.Expression) → high ≤ mid → CarriesExpression h low high y (block p.block) p.value → CarriesStatement h low new caught (syntax.Augment line o (target_of place) y) (block b)) → (Quiet p.block → Quiet b) → Augmented names line to operator x old new (Ok b)
 augments names line to operator o x old mid new place p b eo more pl e f q =
@@ -122,6 +96,5 @@ augments names line to operator o x old mid new place p b eo more pl e f q =
       carries = λ c m h low caught st le.
           subst (λ op. CarriesStatement h low new caught (syntax.Augment line op (target_of place) (e.means c m)) (block b)) eo
           (f h low mid caught (e.means c m) (omega arith) (e.carries c m h low st le));
-      lawful = λ c m r loop fits. (takes_two operator, place_single place, place_lawful place r, e.lawful c m r);
       quiet = q (record { taken = e.taken; yields = e.yields });
     }

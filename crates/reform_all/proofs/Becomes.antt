@@ -1,5 +1,5 @@
 -- Statements, from what their parts become.
-use Rattle.std.proofs.Common.{◌≡◌, ◌≢◌, ◌↔◌, Bool, true, false, ◌&&◌, IsTrue, ℕ, suc, ◌≤◌, List, [], ◌∷◌, ◌++◌, map, length, Option, Some, None, refl, sym, ap, ◌∙◌, subst, arith}
+use Rattle.std.proofs.Common.{◌≡◌, ◌≢◌, ◌↔◌, Bool, false, IsTrue, ℕ, suc, ◌≤◌, List, [], ◌∷◌, ◌++◌, map, length, Option, Some, None, refl, sym, ap, ◌∙◌, subst, arith}
 use Rattle.std.proofs.lemmas.Bool.{false≢true}
 use Rattle.py_ast.specs.declared.expr.Expr.{Expr}
 use Rattle.py_ast.specs.declared.stmt.Branch.{Branch}
@@ -20,17 +20,15 @@ use Rattle.reform_all.specs.declared.ending.ReformEnd.{ReformEnd}
 use Rattle.reform_all.specs.declared.ending.ReformEnd.TheVariants as end
 use Rattle.reform_all.specs.Expressions.{Fails, IsExpressed}
 use Rattle.reform_all.specs.Assignments.{Becomes}
-use Rattle.reform_all.specs.Choices.{Arm, chain, CarriesArms, CarriesChain, Chained, LawfulArms}
-use Rattle.reform_all.specs.Loops.{branches_fit, breaks_fit, all_breaks_fit}
+use Rattle.reform_all.specs.Choices.{Arm, chain, CarriesArms, CarriesChain, Chained}
 use Rattle.reform_all.specs.Quiet.{Quiet, AllQuiet}
 use Rattle.reform_all.proofs.Quiets.{quiet_append, quiet_nil}
-use Rattle.py_lawful.specs.Constructs.{Room, LawfulStatement, LawfulBlock}
 use Rattle.reform_all.specs.Statements.{BlockBecomes, BranchesBecome}
 use Rattle.reform_all.proofs.Making.{made_is, two_is, three_is}
 use Rattle.reform_all.proofs.Blocks.{append_stop, append_nil, append_assoc, more_value, more_row, done_carried, pass_carried, nodes_carried}
 
 -- an expression as a statement
-pub evaluates : (names : List (List ℕ)) (x : Expr) (old new : ℕ) (p : Part) → IsExpressed names x old new p → Becomes ((built.expr x).unbuilt names) (λ loop. true) (λ c. meaning.made syntax.Evaluate ((meaning.expr x).value c)) old new p.block
+pub evaluates : (names : List (List ℕ)) (x : Expr) (old new : ℕ) (p : Part) → IsExpressed names x old new p → Becomes ((built.expr x).unbuilt names) (λ c. meaning.made syntax.Evaluate ((meaning.expr x).value c)) old new p.block
 evaluates names x old new p e = record {
   built = e.built;
   grows = e.grows;
@@ -39,22 +37,20 @@ evaluates names x old new p e = record {
   carries = λ c m h low caught st le.
       subst (λ d. CarriesStatement h low new caught (syntax.Evaluate (e.means c m)) d) (append_stop (block p.block))
       (evaluate_carried h low new caught (e.means c m) (block p.block) p.value (e.carries c m h low st le));
-  lawful = λ c m r loop fits. e.lawful c m r;
   quiet = record { taken = e.taken; yields = e.yields };
 }
 
-pub passes : (old : ℕ) (nodes : List Node) → nodes ≡ [] → Becomes None (λ loop. true) (λ c. meaning.pure syntax.Pass) old old nodes
+pub passes : (old : ℕ) (nodes : List Node) → nodes ≡ [] → Becomes None (λ c. meaning.pure syntax.Pass) old old nodes
 passes old nodes e = record {
   built = refl;
   grows = omega arith;
   means = λ c m. syntax.Pass;
   is = λ c m next. refl;
   carries = λ c m h low caught st le. subst (λ l. CarriesStatement h low old caught syntax.Pass (block l)) (sym e) (pass_carried h low old caught st le);
-  lawful = λ c m r loop fits. tt;
   quiet = subst (λ l. Quiet l) (sym e) quiet_nil;
 }
 
-pub breaks : (old : ℕ) (nodes : List Node) → nodes ≡ Leave 2 ∷ [] → Becomes None (λ loop. loop) (λ c. meaning.pure syntax.Break) old old nodes
+pub breaks : (old : ℕ) (nodes : List Node) → nodes ≡ Leave 2 ∷ [] → Becomes None (λ c. meaning.pure syntax.Break) old old nodes
 breaks old nodes e = record {
   built = refl;
   grows = omega arith;
@@ -63,11 +59,10 @@ breaks old nodes e = record {
   carries = λ c m h low caught st le.
       subst (λ l. CarriesStatement h low old caught syntax.Break (block l)) (sym e)
       (more_row h low low old caught _ _ le (leave_carried h low 1 caught syntax.Break st (omega arith) (λ l handled. refl)));
-  lawful = λ c m r loop fits. fits;
   quiet = subst (λ l. Quiet l) (sym e) (record { taken = refl; yields = refl });
 }
 
-pub continues : (old : ℕ) (nodes : List Node) → nodes ≡ Leave 1 ∷ [] → Becomes None (λ loop. loop) (λ c. meaning.pure syntax.Continue) old old nodes
+pub continues : (old : ℕ) (nodes : List Node) → nodes ≡ Leave 1 ∷ [] → Becomes None (λ c. meaning.pure syntax.Continue) old old nodes
 continues old nodes e = record {
   built = refl;
   grows = omega arith;
@@ -76,7 +71,6 @@ continues old nodes e = record {
   carries = λ c m h low caught st le.
       subst (λ l. CarriesStatement h low old caught syntax.Continue (block l)) (sym e)
       (more_row h low low old caught _ _ le (leave_carried h low 0 caught syntax.Continue st (omega arith) (λ l handled. refl)));
-  lawful = λ c m r loop fits. fits;
   quiet = subst (λ l. Quiet l) (sym e) (record { taken = refl; yields = refl });
 }
 
@@ -85,11 +79,7 @@ unbuilt_in names ss = built.all_unbuilt (map built.stmt ss) names
 
 -- statements that become nodes
 abbrev pub AllBecome : List (List ℕ) → List Stmt → ℕ → ℕ → List Node → Type 0
-AllBecome names ss = BlockBecomes (unbuilt_in names ss) (all_breaks_fit ss) (λ c. meaning.block c (map meaning.stmt ss))
-
-both_true : (a b : Bool) → a && b ≡ true → (a ≡ true) × (b ≡ true)
-both_true true b e = (refl, e)
-both_true false b e = absurd (false≢true e)
+AllBecome names ss = BlockBecomes (unbuilt_in names ss) (λ c. meaning.block c (map meaning.stmt ss))
 
 pub quiet_of : (names : List (List ℕ)) (ss : List Stmt) (old new : ℕ) (nodes : List Node) → AllBecome names ss old new nodes → Quiet nodes
 quiet_of names ss old new nodes x = record { taken = x.taken; yields = x.yields }
@@ -101,12 +91,11 @@ none_become names old = record {
   means = λ c m. syntax.Done;
   is = λ c m next. refl;
   carries = λ c m h low caught st le. done_carried h low old caught st le;
-  lawful = λ c m r loop fits. tt;
   taken = refl;
   yields = refl;
 }
 
-pub more_become : (names : List (List ℕ)) (s : Stmt) (ss : List Stmt) (old mid new : ℕ) (a b : List Node) → Becomes ((built.stmt s).unbuilt names) (breaks_fit s) (meaning.stmt s) old mid a → AllBecome names ss mid new b → AllBecome names (s ∷ ss) old new (a ++ b)
+pub more_become : (names : List (List ℕ)) (s : Stmt) (ss : List Stmt) (old mid new : ℕ) (a b : List Node) → Becomes ((built.stmt s).unbuilt names) (meaning.stmt s) old mid a → AllBecome names ss mid new b → AllBecome names (s ∷ ss) old new (a ++ b)
 more_become names s ss old mid new a b x rest =
     let l₁ : old ≤ mid = x.grows in
     let l₂ : mid ≤ new = rest.grows in
@@ -117,7 +106,6 @@ more_become names s ss old mid new a b x rest =
       is = λ c m. two_is (λ a b. syntax.Then a b) _ _ _ _ (x.is c m) (rest.is c m);
       carries = λ c m h low caught st le.
           nodes_carried h low mid new caught (x.means c m) (rest.means c m) a b (x.carries c m h low caught st le) (rest.carries c m h mid caught (omega arith) (omega arith));
-      lawful = λ c m r loop fits. let f = both_true (breaks_fit s loop) (all_breaks_fit ss loop) fits in (x.lawful c m r loop f.0, rest.lawful c m r loop f.1);
       taken = (quiet_append a b x.quiet (quiet_of names ss mid new b rest)).taken;
       yields = (quiet_append a b x.quiet (quiet_of names ss mid new b rest)).yields;
     }
@@ -130,7 +118,7 @@ pub record Goes (names : List (List ℕ)) (ss rest : List Stmt) (old now : ℕ) 
 pub goes_begin : (names : List (List ℕ)) (ss : List Stmt) (old : ℕ) → Goes names ss ss old old []
 goes_begin names ss old = record { built = refl; goes_on = λ new more x. x }
 
-pub goes_next : (names : List (List ℕ)) (ss : List Stmt) (s : Stmt) (rest : List Stmt) (old now mid : ℕ) (nodes a : List Node) → Goes names ss (s ∷ rest) old now nodes → Becomes ((built.stmt s).unbuilt names) (breaks_fit s) (meaning.stmt s) now mid a → Goes names ss rest old mid (nodes ++ a)
+pub goes_next : (names : List (List ℕ)) (ss : List Stmt) (s : Stmt) (rest : List Stmt) (old now mid : ℕ) (nodes a : List Node) → Goes names ss (s ∷ rest) old now nodes → Becomes ((built.stmt s).unbuilt names) (meaning.stmt s) now mid a → Goes names ss rest old mid (nodes ++ a)
 goes_next names ss s rest old now mid nodes a g x = record {
   built = g.built ∙ ap (λ u. built.before u (unbuilt_in names rest)) x.built;
   goes_on = λ new more y. subst (λ l. AllBecome names ss old new l) (sym (append_assoc nodes a more)) (g.goes_on new (a ++ more) (more_become names s rest now mid new a more x y));
@@ -163,7 +151,6 @@ no_branch names old = record {
   count = λ c m. refl;
   is = λ c m other o e. e;
   carries = λ c m h low caught st le. tt;
-  lawful = λ c m r loop fits. tt;
   quiet = tt;
 }
 
@@ -195,9 +182,6 @@ more_branches names b bs old mid now new p ps el e x rest =
         },
         rest.carries c m h low caught st (omega arith),
       );
-      lawful = λ c m r loop fits.
-          let f = both_true (all_breaks_fit b.body loop) (branches_fit (map (branch_of breaks_fit) bs) [] loop) fits in
-          (e.lawful c m r, x.lawful c m r loop f.0, rest.lawful c m r loop f.1);
       quiet = ((record { taken = e.taken; yields = e.yields }, quiet_of names b.body mid now p.body x), rest.quiet);
     }
 
@@ -266,23 +250,7 @@ first_carried h low new caught n (a ∷ arms) o nodes e c = c
 pub not_empty : (b : Bool) (bs : List (Branch Stmt)) → (IsTrue b ↔ (bs ≡ [])) → b ≡ false → bs ≢ []
 not_empty b bs i e some = absurd (false≢true (sym e ∙ i.1 some))
 
--- branches and the `else`, apart
-fits_apart : (bs : List (Branch Stmt)) (other : List Stmt) (loop : Bool) → branches_fit (map (branch_of breaks_fit) bs) (map breaks_fit other) loop ≡ true → (branches_fit (map (branch_of breaks_fit) bs) [] loop ≡ true) × (all_breaks_fit other loop ≡ true)
-fits_apart [] other loop e = (refl, e)
-fits_apart (b ∷ bs) other loop e =
-    let f = both_true (all_breaks_fit b.body loop) (branches_fit (map (branch_of breaks_fit) bs) (map breaks_fit other) loop) e in
-    let g = fits_apart bs other loop f.1 in
-    (ap (λ u. u && branches_fit (map (branch_of breaks_fit) bs) [] loop) f.0 ∙ g.0, g.1)
-
-chain_lawful : (r : Room) (loop : Bool) (arms : List Arm) (o : syntax.Block) → LawfulArms r loop arms → LawfulBlock r loop o → LawfulBlock r loop (chain arms o)
-chain_lawful r loop [] o x y = y
-chain_lawful r loop (a ∷ arms) o x y = ((x.0, x.1, chain_lawful r loop arms o x.2 y), tt)
-
-first_lawful : (r : Room) (loop : Bool) (n : ℕ) (arms : List Arm) (o : syntax.Block) → length arms ≡ suc n → LawfulArms r loop arms → LawfulBlock r loop o → LawfulStatement r loop (meaning.first_of (chain arms o))
-first_lawful r loop n [] o e x y = absurd (omega (arith, e))
-first_lawful r loop n (a ∷ arms) o e x y = (x.0, x.1, chain_lawful r loop arms o x.2 y)
-
-pub chooses : (names : List (List ℕ)) (line : ℕ) (bs : List (Branch Stmt)) (other : List Stmt) (old mid now new : ℕ) (ps : List Choice) (os nodes : List Node) → bs ≢ [] → BranchesBecome names bs old mid ps → AllBecome names other mid now os → now ≤ new → Chained ps now new os nodes → (AllQuiet ps → Quiet os → Quiet nodes) → Becomes (built.branching line (map (branch_of built.stmt) bs) (map built.stmt other) names) (branches_fit (map (branch_of breaks_fit) bs) (map breaks_fit other)) (λ c. meaning.made meaning.first_of (meaning.branches c (map (branch_of meaning.stmt) bs) (meaning.block c (map meaning.stmt other)))) old new nodes
+pub chooses : (names : List (List ℕ)) (line : ℕ) (bs : List (Branch Stmt)) (other : List Stmt) (old mid now new : ℕ) (ps : List Choice) (os nodes : List Node) → bs ≢ [] → BranchesBecome names bs old mid ps → AllBecome names other mid now os → now ≤ new → Chained ps now new os nodes → (AllQuiet ps → Quiet os → Quiet nodes) → Becomes (built.branching line (map (branch_of built.stmt) bs) (map built.stmt other) names) (λ c. meaning.made meaning.first_of (meaning.branches c (map (branch_of meaning.stmt) bs) (meaning.block c (map meaning.stmt other)))) old new nodes
 chooses names line [] other old mid now new ps os nodes some x y le k q = absurd (some refl)
 chooses names line (b ∷ bs) other old mid now new ps os nodes some x y le k q =
     let l₁ : old ≤ mid = x.grows in
@@ -295,13 +263,10 @@ chooses names line (b ∷ bs) other old mid now new ps os nodes some x y le k q 
       carries = λ c m h low caught st below.
           first_carried h low new caught (length bs) (x.means c m) (y.means c m) nodes (x.count c m)
           (k h low caught (x.means c m) (y.means c m) st (omega arith) (more_arms h low mid now caught (x.means c m) ps l₂ (x.carries c m h low caught st below)) (y.carries c m h low caught st (omega arith)));
-      lawful = λ c m r loop fits.
-          let f = fits_apart (b ∷ bs) other loop fits in
-          first_lawful r loop (length bs) (x.means c m) (y.means c m) (x.count c m) (x.lawful c m r loop f.0) (y.lawful c m r loop f.1);
       quiet = q x.quiet (quiet_of names other mid now os y);
     }
 
-pub repeats : (names : List (List ℕ)) (line : ℕ) (test : Expr) (body other : List Stmt) (old a b c new : ℕ) (p : Part) (bs os nodes : List Node) → IsExpressed names test old a p → AllBecome names body a b bs → AllBecome names other b c os → c ≤ new → ((h : Homes) (low tl th bl bh ol oh : ℕ) (caught : Option ℕ) (x : syntax.Expression) (y z : syntax.Block) → behind h ≤ low → Within low c tl th → Within low c bl bh → Within low c ol oh → CarriesExpression h tl th x (block p.block) p.value → CarriesBlock h bl bh caught y (block bs) → CarriesBlock h ol oh caught z (block os) → CarriesStatement h low new caught (syntax.While line x y z) (block nodes)) → (Quiet p.block → Quiet bs → Quiet os → Quiet nodes) → Becomes (built.before ((built.expr test).unbuilt names) (built.before (unbuilt_in names body) (unbuilt_in names other))) (λ loop. all_breaks_fit body true && all_breaks_fit other loop) (λ c. meaning.and_then ((meaning.expr test).value c) (λ t. meaning.and_then (meaning.block c (map meaning.stmt body)) (λ u. meaning.made (syntax.While line t u) (meaning.block c (map meaning.stmt other))))) old new nodes
+pub repeats : (names : List (List ℕ)) (line : ℕ) (test : Expr) (body other : List Stmt) (old a b c new : ℕ) (p : Part) (bs os nodes : List Node) → IsExpressed names test old a p → AllBecome names body a b bs → AllBecome names other b c os → c ≤ new → ((h : Homes) (low tl th bl bh ol oh : ℕ) (caught : Option ℕ) (x : syntax.Expression) (y z : syntax.Block) → behind h ≤ low → Within low c tl th → Within low c bl bh → Within low c ol oh → CarriesExpression h tl th x (block p.block) p.value → CarriesBlock h bl bh caught y (block bs) → CarriesBlock h ol oh caught z (block os) → CarriesStatement h low new caught (syntax.While line x y z) (block nodes)) → (Quiet p.block → Quiet bs → Quiet os → Quiet nodes) → Becomes (built.before ((built.expr test).unbuilt names) (built.before (unbuilt_in names body) (unbuilt_in names other))) (λ c. meaning.and_then ((meaning.expr test).value c) (λ t. meaning.and_then (meaning.block c (map meaning.stmt body)) (λ u. meaning.made (syntax.While line t u) (meaning.block c (map meaning.stmt other))))) old new nodes
 repeats names line test body other old a b d new p bs os nodes e x y le k q =
     let l₁ : old ≤ a = e.grows in
     let l₂ : a ≤ b = x.grows in
@@ -314,8 +279,5 @@ repeats names line test body other old a b d new p bs os nodes e x y le k q =
       carries = λ c m h low caught st below.
           k h low low a low b low d caught (e.means c m) (x.means c m) (y.means c m) st (omega arith, omega arith) (omega arith, omega arith) (omega arith, omega arith)
           (e.carries c m h low st below) (x.carries c m h low caught st (omega arith)) (y.carries c m h low caught st (omega arith));
-      lawful = λ c m r loop fits.
-          let f = both_true (all_breaks_fit body true) (all_breaks_fit other loop) fits in
-          (e.lawful c m r, x.lawful c m r true f.0, y.lawful c m r loop f.1);
       quiet = q (record { taken = e.taken; yields = e.yields }) (quiet_of names body a b bs x) (quiet_of names other b d os y);
     }

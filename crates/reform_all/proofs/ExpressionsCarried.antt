@@ -3,7 +3,6 @@ use Rattle.std.proofs.Common.{◌≡◌, ◌≢◌, inl, ℕ, ℤ, ◌+◌, ◌�
 use Rattle.std.proofs.Math.Nat.{le_refl}
 use Rattle.std.specs.Result.{IsErrAnd}
 use Rattle.op_rules.specs.declared.constant.Const.{Const}
-use Rattle.op_rules.specs.declared.constant.Const.TheVariants as const
 use Rattle.op_rules.specs.declared.op.Op.{Op}
 use Rattle.op_rules.specs.declared.op.Op.TheVariants as op
 use Rattle.op_rules.specs.Foldable.{value_of}
@@ -31,7 +30,6 @@ use Rattle.node_tree.specs.Tree.{block}
 use Rattle.py_meaning.specs.Syntax as syntax
 use Rattle.py_meaning.specs.Resolved as meaning
 use Rattle.py_meaning.specs.Resolved.{Context, Made, Making, pure, made, and_then}
-use Rattle.py_lawful.specs.Constructs.{Room, IsConstant, TakesTwo, LawfulExpression}
 use Rattle.nu_carries.specs.Frames.{Homes, behind, IsWithin}
 use Rattle.nu_carries.specs.Carries.{CarriesExpression}
 use Rattle.nu_carries.proofs.Facts.{outside_less}
@@ -183,7 +181,6 @@ record Evaluated (unbuilt : Option ℕ) (value : Context → Making syntax.Expre
   means : (c : Context) → InModule c → syntax.Expression
   is : (c : Context) → (m : InModule c) → Is (value c) (means c m)
   carries : (c : Context) → (m : InModule c) → (h : Homes) (low : ℕ) → behind h ≤ low → low ≤ old → CarriesExpression h low new (means c m) (block p.block) p.value
-  lawful : (c : Context) → (m : InModule c) → (r : Room) → LawfulExpression r (means c m)
   taken : refused (block p.block) ≡ 0
   yields : yields (block p.block) ≡ 0
 
@@ -194,7 +191,6 @@ by_rows bound x b q old new p is also r = record {
   means = r.means;
   is = λ c m. subst (λ part. Is (part.value c) (r.means c m)) (sym also) (r.is c m);
   carries = r.carries;
-  lawful = r.lawful;
   taken = r.taken;
   yields = r.yields;
 }
@@ -203,12 +199,6 @@ by_rows bound x b q old new p is also r = record {
 
 abbrev refuses : tree.Form → ℕ
 refuses = form_operations (λ o args. not (is_taken o args))
-
-constant_lawful : (k : Const) → IsConstant (value_of k)
-constant_lawful const.None = tt
-constant_lawful (const.Bool b) = tt
-constant_lawful (const.Int i) = tt
-constant_lawful (const.Str s) = tt
 
 constant_by : (h : Homes) (low : ℕ) (k : Const) (p : Part) → p.block ≡ [] → p.value ≡ operand.Const k → behind h ≤ low → CarriesExpression h low low (syntax.Constant (value_of k)) (block p.block) p.value
 constant_by h low k p empty is st =
@@ -222,7 +212,6 @@ constant_expressed bound x at k p is also empty value = by_rows bound x (built.v
   means = λ c m. syntax.Constant (value_of k);
   is = λ c m. is_pure (syntax.Constant (value_of k));
   carries = λ c m h low st le. wider h low low at (syntax.Constant (value_of k)) (block p.block) p.value le (constant_by h low k p empty value st);
-  lawful = λ c m r. constant_lawful k;
   taken = ap (λ b. refused (block b)) empty;
   yields = ap (λ b. yields (block b)) empty;
 })
@@ -238,7 +227,6 @@ name_expressed bound line name old new p known le carried contents =
       means = λ c m. syntax.Name line (syntax.Module name);
       is = λ c m. subst (λ home. Is (pure (syntax.Name line home)) (syntax.Name line (syntax.Module name))) (sym (m.homes name)) (is_pure (syntax.Name line (syntax.Module name)));
       carries = λ c m. carried;
-      lawful = λ c m r. tt;
       taken = contents refuses;
       yields = contents form_yields;
     })
@@ -282,37 +270,6 @@ compared_taken comparison.NotIn a b e = sym e
 compared_taken comparison.Is a b e = refl
 compared_taken comparison.IsNot a b e = refl
 
--- an operation on lawful operands is lawful
-unary_lawful : (r : Room) (line : ℕ) (sign : Unary) (v : syntax.Expression) → LawfulExpression r v → LawfulExpression r (syntax.Operation line (meaning.unary_op sign) (syntax.More v syntax.NoMore))
-unary_lawful r line unary.Plus v l = (tt, l, tt)
-unary_lawful r line unary.Minus v l = (tt, l, tt)
-unary_lawful r line unary.Invert v l = (tt, l, tt)
-
-binary_lawful : (r : Room) (line : ℕ) (operator : Binary) (v w : syntax.Expression) → LawfulExpression r v → LawfulExpression r w → LawfulExpression r (syntax.Operation line (meaning.binary_op operator) (syntax.More v (syntax.More w syntax.NoMore)))
-binary_lawful r line binary.BitOr v w l k = (tt, l, (tt, k, tt))
-binary_lawful r line binary.BitXor v w l k = (tt, l, (tt, k, tt))
-binary_lawful r line binary.BitAnd v w l k = (tt, l, (tt, k, tt))
-binary_lawful r line binary.LeftShift v w l k = (tt, l, (tt, k, tt))
-binary_lawful r line binary.RightShift v w l k = (tt, l, (tt, k, tt))
-binary_lawful r line binary.Add v w l k = (tt, l, (tt, k, tt))
-binary_lawful r line binary.Subtract v w l k = (tt, l, (tt, k, tt))
-binary_lawful r line binary.Multiply v w l k = (tt, l, (tt, k, tt))
-binary_lawful r line binary.FloorDivide v w l k = (tt, l, (tt, k, tt))
-binary_lawful r line binary.Remainder v w l k = (tt, l, (tt, k, tt))
-binary_lawful r line binary.Power v w l k = (tt, l, (tt, k, tt))
-
-compared_two : (sign : Comparison) → built.is_in sign ≡ false → TakesTwo (meaning.comparison_op sign)
-compared_two comparison.Less e = record { two = refl; only = refl }
-compared_two comparison.Greater e = record { two = refl; only = refl }
-compared_two comparison.LessEqual e = record { two = refl; only = refl }
-compared_two comparison.GreaterEqual e = record { two = refl; only = refl }
-compared_two comparison.Equal e = record { two = refl; only = refl }
-compared_two comparison.NotEqual e = record { two = refl; only = refl }
-compared_two comparison.In e = record { two = refl; only = refl }
-compared_two comparison.NotIn e = record { two = refl; only = refl }
-compared_two comparison.Is e = record { two = refl; only = refl }
-compared_two comparison.IsNot e = record { two = refl; only = refl }
-
 sum_one : (t a f : ℕ) → t ≡ (a + 0) + f → a ≡ 0 → f ≡ 0 → t ≡ 0
 sum_one t a f e e₁ e₂ = omega arith
 
@@ -339,7 +296,6 @@ unary_expressed bound whole line sign x y old mid new a p w same i d =
       means = λ c m. syntax.Operation line (meaning.unary_op sign) (syntax.More (i.means c m) syntax.NoMore);
       is = λ c m. is_made (syntax.Operation line (meaning.unary_op sign)) (meaning.values c (meaning.expr x ∷ [])) _ (is_one c (meaning.expr x) (i.means c m) (i.is c m));
       carries = λ c m h low st l. one_carried line _ _ mid new a p d h low (i.means c m) (i.carries c m h low st l);
-      lawful = λ c m r. unary_lawful r line sign (i.means c m) (i.lawful c m r);
       taken = none_one refuses d i.taken (taken_form mid line (meaning.unary_op sign) (arguments (meaning.unary_op sign) (a ∷ [])) (unary_taken sign a));
       yields = none_one form_yields d i.yields refl;
     })
@@ -355,7 +311,6 @@ not_expressed bound whole line x y old mid top new a t p w same i truth d =
       means = λ c m. syntax.Operation line op.Not (syntax.More (syntax.Operation line op.Truth (syntax.More (i.means c m) syntax.NoMore)) syntax.NoMore);
       is = λ c m. is_made (λ v. syntax.Operation line op.Not (syntax.More (syntax.Operation line op.Truth (syntax.More v syntax.NoMore)) syntax.NoMore)) ((meaning.expr x).value c) (i.means c m) (i.is c m);
       carries = λ c m h low st l. one_carried line op.Not _ top new t p d h low (syntax.Operation line op.Truth (syntax.More (i.means c m) syntax.NoMore)) (one_carried line op.Truth _ mid top a t truth h low (i.means c m) (i.carries c m h low st l));
-      lawful = λ c m r. (tt, (tt, i.lawful c m r, tt), tt);
       taken = none_one refuses d (none_one refuses truth i.taken refl) refl;
       yields = none_one form_yields d (none_one form_yields truth i.yields refl) refl;
     })
@@ -380,7 +335,6 @@ binary_expressed bound whole line operator x y x' y' old mid high new a b p w sa
       means = λ c m. syntax.Operation line (meaning.binary_op operator) (syntax.More (i.means c m) (syntax.More (j.means c m) syntax.NoMore));
       is = λ c m. is_made (syntax.Operation line (meaning.binary_op operator)) (meaning.values c (meaning.expr x ∷ meaning.expr y ∷ [])) _ (is_two c (meaning.expr x) (meaning.expr y) (i.means c m) (j.means c m) (i.is c m) (j.is c m));
       carries = two_carried line (meaning.binary_op operator) _ bound x y old mid high new a b p i j d;
-      lawful = λ c m r. binary_lawful r line operator (i.means c m) (j.means c m) (i.lawful c m r) (j.lawful c m r);
       taken = none_two refuses d i.taken j.taken (taken_form high line (meaning.binary_op operator) (arguments (meaning.binary_op operator) (a ∷ b ∷ [])) (binary_taken operator a b));
       yields = none_two form_yields d i.yields j.yields refl;
     })
@@ -451,7 +405,6 @@ compared_expressed bound whole line x x' links link old mid high new a b p w sam
           (subst (λ n. Is (made (syntax.LastLink o n) ((meaning.expr link.right).value c)) (syntax.LastLink o false (j.means c m))) (sym (plain_comparison link.comparison plain))
           (is_made (syntax.LastLink o false) ((meaning.expr link.right).value c) (j.means c m) (j.is c m))));
       carries = λ c m h low st l. compared_carried h low new line o (i.means c m) (j.means c m) (block p.block) p.value (two_carried line o _ bound x link.right old mid high new a b p i j d c m h low st l);
-      lawful = λ c m r. (i.lawful c m r, (compared_two link.comparison plain, tt, j.lawful c m r));
       taken = none_two refuses d i.taken j.taken (taken_form high line o (arguments o (a ∷ b ∷ [])) (compared_taken link.comparison a b plain));
       yields = none_two form_yields d i.yields j.yields refl;
     })
@@ -482,7 +435,6 @@ called_expressed bound whole line f f' xs x old mid high new a b p w same one pr
       is = λ c m. is_and_then ((meaning.expr f).value c) (λ g. made (λ vs. syntax.Operation line op.Call (syntax.More g vs)) (meaning.positional c (argument.Plain (meaning.expr x) ∷ []))) (i.means c m) _ (i.is c m)
           (is_made (λ vs. syntax.Operation line op.Call (syntax.More (i.means c m) vs)) (meaning.values c (meaning.expr x ∷ [])) _ (is_one c (meaning.expr x) (j.means c m) (j.is c m)));
       carries = two_carried line op.Call _ bound f x old mid high new a b p i j d;
-      lawful = λ c m r. (tt, i.lawful c m r, (tt, j.lawful c m r, tt));
       taken = none_two refuses d i.taken j.taken refl;
       yields = none_two form_yields d i.yields j.yields refl;
     })

@@ -1,6 +1,6 @@
 -- The module of a script that is built: its one scope.
 use Rattle.std.proofs.Common.{◌≡◌, ℕ, zero, suc, Bool, true, false, not, ◌&&◌, ◌||◌, ◌==◌, cond, nat_lt, List, [], ◌∷◌, ◌++◌, map, length, codes, unwrap_or, Option, Some, None, refl, ap, ◌∙◌, sym, subst, arith}
-use Rattle.std.specs.List.{filter, list_any}
+use Rattle.std.specs.List.{filter}
 use Rattle.std.specs.Str.{bytes_eq}
 use Rattle.std.proofs.lemmas.Bool.{le-ltb}
 use Rattle.py_ast.specs.declared.scoped.NameHome.{NameHome}
@@ -12,11 +12,10 @@ use Rattle.py_scopes.specs.declared.survey.Site.{Site}
 use Rattle.py_scopes.specs.declared.survey.Survey.{Survey}
 use Rattle.py_scopes.specs.Homes.{occurs, global, home, first_home, decided, binds, seen, seen_within}
 use Rattle.py_scopes.specs.Resolve.{scopes_of, names_from, new_name, filled}
-use Rattle.py_scopes.specs.Rules.{variable, is_loose, KeepsAll, Loop}
+use Rattle.py_scopes.specs.Rules.{variable}
 use Rattle.py_scopes.specs.Survey.{surveyed, enter, own_name, top}
 use Rattle.py_meaning.specs.Scopes.{home_among, home_by, is_free, distinct, is_inside, names_where}
 use Rattle.reform_all.specs.Built.{first_unbuilt, bound_in}
-use Rattle.reform_all.specs.Loops.{all_breaks_fit}
 use Rattle.reform_all.specs.Module.{IsModule}
 use Rattle.reform_all.proofs.ModuleSurvey.{Quiet, stmts_settled}
 
@@ -82,7 +81,7 @@ module_scope generator names = record { kind = kind.Module; name = codes "<modul
 begins : Survey
 begins = enter 1 kind.Module (own_name kind.Module) top (record { scopes = []; sites = [] })
 
-survey_is : (ss : List Stmt) → first_unbuilt ss ≡ None → Quiet (all_breaks_fit ss false) begins (surveyed ss)
+survey_is : (ss : List Stmt) → first_unbuilt ss ≡ None → Quiet begins (surveyed ss)
 unfolding surveyed begins
 survey_is ss h = stmts_settled ss (bound_in ss) h top begins
 
@@ -109,39 +108,3 @@ pub module_is : (s : Scoped) → s.scopes ≡ scopes_of (surveyed s.script.state
 module_is s e h =
     let survey = surveyed s.script.statements in
     subst IsModule (sym (e ∙ scopes_are s.script.statements h)) (alone (names_from survey 0 [] survey.sites) (homes_are survey [] survey.sites))
-
--- Loops
-
--- a test that holds somewhere cuts the list there
-record Cut (sites : List Site) : Type 0 where
-  before : List Site
-  site : Site
-  after : List Site
-  cut : sites ≡ before ++ site ∷ after
-  here : is_loose site ≡ true
-
-cut_at : (sites : List Site) → list_any is_loose sites ≡ true → Cut sites
-cut_at [] h = grind (arith, h)
-cut_at (x ∷ xs) h = go (is_loose x) refl (cut_at xs)
-  where
-    go : (b : Bool) → is_loose x ≡ b → (list_any is_loose xs ≡ true → Cut xs) → Cut (x ∷ xs)
-    go true e later = record { before = []; site = x; after = xs; cut = refl; here = e }
-    go false e later =
-        let c = later (ap (λ b. b || list_any is_loose xs) (sym e) ∙ h) in
-        record { before = x ∷ c.before; site = c.site; after = c.after; cut = ap (λ ys. x ∷ ys) c.cut; here = c.here }
-
-none_loose : (survey : Survey) → KeepsAll survey → list_any is_loose survey.sites ≡ false
-none_loose survey k = go (list_any is_loose survey.sites) refl
-  where
-    go : (b : Bool) → list_any is_loose survey.sites ≡ b → list_any is_loose survey.sites ≡ false
-    go false e = e
-    go true e = let c = cut_at survey.sites e in absurd (k Loop (record { before = c.before; site = c.site; after = c.after; cut = c.cut; here = c.here }))
-
--- in a script that is built and keeps the rules each `break` and `continue` stands in a loop
-pub loops_fit : (ss : List Stmt) → first_unbuilt ss ≡ None → KeepsAll (surveyed ss) → all_breaks_fit ss false ≡ true
-unfolding begins enter
-loops_fit ss h k = go (all_breaks_fit ss false) (sym (survey_is ss h).loops ∙ none_loose (surveyed ss) k)
-  where
-    go : (b : Bool) → not b ≡ false → b ≡ true
-    go true e = refl
-    go false e = grind (arith, e)

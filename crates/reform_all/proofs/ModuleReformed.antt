@@ -1,5 +1,5 @@
 -- A script whose statements are reformed is reformed.
-use Rattle.std.proofs.Common.{◌≡◌, ℕ, false, List, [], ◌∷◌, Ok, None, refl, sym, subst, arith}
+use Rattle.std.proofs.Common.{◌≡◌, ℕ, List, [], ◌∷◌, Ok, None, refl, sym, subst, arith}
 use Rattle.py_ast.specs.declared.scoped.Scoped.{Scoped}
 use Rattle.py_scopes.specs.Resolve.{scopes_of}
 use Rattle.py_scopes.specs.Survey.{surveyed}
@@ -10,8 +10,8 @@ use Rattle.reform_all.specs.Built.{bound_in}
 use Rattle.reform_all.specs.Module.{module_code, module_script}
 use Rattle.reform_all.specs.Scripts.{IsReformed}
 use Rattle.reform_all.specs.Statements.{AllStated}
-use Rattle.reform_all.proofs.Module.{module_is, loops_fit}
-use Rattle.reform_all.proofs.ModuleRun.{no_homes, headers_are, lawful_codes, module_same}
+use Rattle.reform_all.proofs.Module.{module_is}
+use Rattle.reform_all.proofs.ModuleRun.{no_homes, headers_are, module_same}
 
 pub module_reformed : (name : List ℕ) (s : Scoped) → s.scopes ≡ scopes_of (surveyed s.script.statements) → (new : ℕ) (body : List Node)
     → AllStated (bound_in s.script.statements) s.script.statements 0 new (Ok body) → IsReformed name s (module_script name body)
@@ -27,7 +27,6 @@ module_reformed name s e new body b =
       single = m.one;
       «module» = refl;
       same = λ rules input. module_same rules name block body s m (b.is c (m.inside 0)) new (b.carries c (m.inside 0) no_homes 0 None (omega arith) (omega arith)) input;
-      lawful = λ k. lawful_codes s m block (b.is c (m.inside 0)) (λ r. b.lawful c (m.inside 0) r false (loops_fit s.script.statements b.built k));
       taken = (b.taken, tt);
       yields = (b.yields, tt);
     }

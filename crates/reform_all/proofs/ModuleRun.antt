@@ -17,7 +17,6 @@ use Rattle.py_meaning.specs.Syntax as syntax
 use Rattle.py_meaning.specs.Resolved as meaning
 use Rattle.py_meaning.specs.Scopes.{local_names, own_names, free_names, parameter_of}
 use Rattle.py_meaning.specs.Script.{py_run, all_codes}
-use Rattle.py_lawful.specs.Constructs.{Room, LawfulBlock, LawfulCodes}
 use Rattle.nu_carries.specs.Frames.{Homes, begun}
 use Rattle.nu_carries.specs.Carries.{Setting, BegunAs, Correspond, BodyEnds, CarriesBlock, CarriesCode, CarriesScript}
 use Rattle.nu_carries.proofs.Carry.{none_by}
@@ -52,9 +51,6 @@ codes_are s m b i = ap (meaning.module_codes (meaning.module_context s.scopes 0)
 pub headers_are : (s : Scoped) → IsModule s.scopes → (b : syntax.Block) → IsBody s b → (body : List Node) → map node_run.header (module_code body ∷ []) ≡ map (λ code. code.header) (all_codes s None)
 headers_are s m b i body = sym (ap (map (λ code. code.header)) (codes_are s m b i))
 
-pub lawful_codes : (s : Scoped) → IsModule s.scopes → (b : syntax.Block) → IsBody s b → ((r : Room) → LawfulBlock r false b) → LawfulCodes (all_codes s None)
-lawful_codes s m b i l = subst LawfulCodes (sym (codes_are s m b i)) (record { params = refl; owns = refl; frees = refl; body = l _ }, tt)
-
 -- The names of a module have no temporaries
 
 abbrev pub no_homes : Homes
@@ -76,6 +72,7 @@ begun_alike true given cells f g c l o = record {
   code = c;
   count = ap length l;
   made = ap length o;
+  rest = λ place le. ap (λ vs. python.at vs place) l;
   locals = λ place lt. absurd (omega (arith, lt));
   owns = λ place lt. absurd (omega (arith, lt));
   frees = λ place lt. absurd (omega (arith, lt));

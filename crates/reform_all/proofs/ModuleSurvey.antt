@@ -1,6 +1,5 @@
 -- What a built script adds to a survey: no scope, and no `yield`.
 use Rattle.std.proofs.Common.{◌≡◌, ℕ, Bool, true, false, not, ◌&&◌, ◌||◌, ◌==◌, cond, List, [], ◌∷◌, map, Option, Some, None, is_some, refl, ap, ◌∙◌, sym, subst, arith}
-use Rattle.std.specs.List.{list_any}
 use Rattle.std.proofs.lemmas.List.Folds.{list_any-append}
 use Rattle.py_ast.specs.declared.expr.Argument.{Argument}
 use Rattle.py_ast.specs.declared.expr.Argument.TheVariants as argument
@@ -21,52 +20,29 @@ use Rattle.py_scopes.specs.declared.survey.Place.{Place}
 use Rattle.py_scopes.specs.declared.survey.Survey.{Survey}
 use Rattle.py_scopes.specs.Homes.{somewhere}
 use Rattle.py_scopes.specs.Resolve.{is_yield}
-use Rattle.py_scopes.specs.Rules.{is_break, is_loose}
 use Rattle.py_scopes.specs.Survey as survey
 use Rattle.py_scopes.specs.Survey.{Adds, Part, site, all, misplaced_if, plain, name, named, is_value, link_adds, arguments, branch_adds, looping}
 use Rattle.reform_all.specs.Built as built
-use Rattle.reform_all.specs.Loops.{Fits, all_fit, branches_fit, stmt_fits, breaks_fit, all_breaks_fit}
 
 -- What adds nothing but sites
 
--- the same scopes, no further `yield` in the module, and a `break` outside a loop exactly where they don't fit
-pub record Quiet (fits : Bool) (old new : Survey) : Type 0 where
+-- the same scopes, and no further `yield` in the module
+pub record Quiet (old new : Survey) : Type 0 where
   pub scopes : new.scopes ≡ old.scopes
   pub yields : somewhere is_yield 0 new.sites ≡ somewhere is_yield 0 old.sites
-  pub loops : list_any is_loose new.sites ≡ (list_any is_loose old.sites || not fits)
 
-abbrev pub Fit : Fits → Adds → Type 0
-Fit fits f = (place : Place) (s : Survey) → Quiet (fits place.in_loop) s (f place s)
-
--- no `break` at all
 abbrev pub Plain : Adds → Type 0
-Plain f = Fit (λ loop. true) f
+Plain f = (place : Place) (s : Survey) → Quiet s (f place s)
 
-or_false : (a : Bool) → (a || false) ≡ a
-or_false true = refl
-or_false false = refl
+still : (s : Survey) → Quiet s s
+still s = record { scopes = refl; yields = refl }
 
-still : (s : Survey) → Quiet true s s
-still s = record { scopes = refl; yields = refl; loops = sym (or_false (list_any is_loose s.sites)) }
-
-further : (a b : Bool) (r s t : Survey) → Quiet a r s → Quiet b s t → Quiet (a && b) r t
-further a b r s t p q = record {
-  scopes = q.scopes ∙ p.scopes;
-  yields = q.yields ∙ p.yields;
-  loops = q.loops ∙ ap (λ o. o || not b) p.loops ∙ go (list_any is_loose r.sites) a b;
-}
-  where
-    go : (o a b : Bool) → ((o || not a) || not b) ≡ (o || not (a && b))
-    go true a b = refl
-    go false true b = refl
-    go false false b = refl
+further : (r s t : Survey) → Quiet r s → Quiet s t → Quiet r t
+further r s t p q = record { scopes = q.scopes ∙ p.scopes; yields = q.yields ∙ p.yields }
 
 -- one part, and one behind it
-behind : (a b : Fits) (f g : Adds) → Fit a f → Fit b g → Fit (λ loop. a loop && b loop) (λ place s. g place (f place s))
-behind a b f g p q place s = further (a place.in_loop) (b place.in_loop) s (f place s) (g place (f place s)) (p place s) (q place (f place s))
-
 after : (f g : Adds) → Plain f → Plain g → Plain (λ place s. g place (f place s))
-after f g = behind (λ loop. true) (λ loop. true) f g
+after f g p q place s = further s (f place s) (g place (f place s)) (p place s) (q place (f place s))
 
 nothing_more : (a b c : Bool) → c ≡ false → (a || ((b && c) || false)) ≡ a
 nothing_more true b c h = refl
@@ -77,49 +53,30 @@ one_yields : (line : ℕ) (w : What) → is_yield w ≡ false → (place : Place
 unfolding site
 one_yields line w h place s = list_any-append (λ site. (site.place.scope == 0) && is_yield site.what) s.sites _ ∙ nothing_more (somewhere is_yield 0 s.sites) (place.scope == 0) (is_yield w) h
 
-one_loops : (line : ℕ) (w : What) (place : Place) (s : Survey) → list_any is_loose (site line w place s).sites ≡ (list_any is_loose s.sites || (is_break w && not place.in_loop))
-unfolding site
-one_loops line w place s = list_any-append is_loose s.sites _ ∙ ap (λ o. list_any is_loose s.sites || o) (or_false (is_break w && not place.in_loop))
-
 same_scopes : (line : ℕ) (w : What) (place : Place) (s : Survey) → (site line w place s).scopes ≡ s.scopes
 unfolding site
 same_scopes line w place s = refl
 
--- neither a `yield` nor a `break`
-abbrev IsCalm : What → Type 0
-IsCalm w = (is_yield w ≡ false) × (is_break w ≡ false)
-
-site_plain : (line : ℕ) (w : What) → IsCalm w → Plain (site line w)
-site_plain line w h place s = record {
-  scopes = same_scopes line w place s;
-  yields = one_yields line w h.0 place s;
-  loops = one_loops line w place s ∙ ap (λ b. list_any is_loose s.sites || (b && not place.in_loop)) h.1;
-}
-
-break_fits : (line : ℕ) → Fit (λ loop. loop) (site line what.Break)
-break_fits line place s = record {
-  scopes = same_scopes line what.Break place s;
-  yields = one_yields line what.Break refl place s;
-  loops = one_loops line what.Break place s;
-}
+site_plain : (line : ℕ) (w : What) → is_yield w ≡ false → Plain (site line w)
+site_plain line w h place s = record { scopes = same_scopes line w place s; yields = one_yields line w h place s }
 
 none_plain : Plain (all [])
 none_plain place s = still s
 
 misplaced_plain : (wrong : Bool) (line : ℕ) → Plain (misplaced_if wrong line)
-misplaced_plain true line place s = site_plain line what.Misplaced (refl, refl) place s
+misplaced_plain true line place s = site_plain line what.Misplaced refl place s
 misplaced_plain false line place s = still s
 
 plain_plain : (line : ℕ) (f : Adds) → Plain f → (wanted : Role) → Plain (plain line f wanted)
 plain_plain line f p wanted = after (misplaced_if (not (is_value wanted)) line) f (misplaced_plain (not (is_value wanted)) line) p
 
-named_quiet : (wanted : Role) (x : List ℕ) → IsCalm (named wanted x)
-named_quiet role.Value x = (refl, refl)
-named_quiet role.Target x = (refl, refl)
-named_quiet role.Augmented x = (refl, refl)
-named_quiet role.Deleted x = (refl, refl)
+named_quiet : (wanted : Role) (x : List ℕ) → is_yield (named wanted x) ≡ false
+named_quiet role.Value x = refl
+named_quiet role.Target x = refl
+named_quiet role.Augmented x = refl
+named_quiet role.Deleted x = refl
 
-name_plain : (line : ℕ) (of_name : List ℕ → What) → ((x : List ℕ) → IsCalm (of_name x)) → (x : List ℕ) → Plain (name line of_name x)
+name_plain : (line : ℕ) (of_name : List ℕ → What) → ((x : List ℕ) → is_yield (of_name x) ≡ false) → (x : List ℕ) → Plain (name line of_name x)
 name_plain line of_name h x place s = site_plain line (of_name (survey.spelled place s x)) (h (survey.spelled place s x)) place s
 
 -- What is built
@@ -222,7 +179,7 @@ one_clear_call line f x = values_clear (built.called line (built.expr f.0).name 
     let parts = one_call line (built.expr f.0).name (built.expr x.0) bound h in
     plain_plain line (calls_one line f x)
     (after (λ place s. site line what.Arguments place (value_of f place s)) (value_of x)
-    (after (value_of f) (site line what.Arguments) (f.1.name parts.0.0 parts.0.1 role.Value) (site_plain line what.Arguments (refl, refl)))
+    (after (value_of f) (site line what.Arguments) (f.1.name parts.0.0 parts.0.1 role.Value) (site_plain line what.Arguments refl))
     (x.1.value bound parts.1 role.Value)))
 
 abbrev bare : Expr-F Sure → Expr-F Expr
@@ -301,12 +258,12 @@ targets_plain (x ∷ xs) h =
     let parts = before_none (built.target x) (built.first (map built.target xs)) h in
     after (survey.target x) (all (map survey.target xs)) (target_plain x parts.0 role.Target) (targets_plain xs parts.1)
 
--- built, it fits, and adds nothing but sites
-abbrev Settled : built.Statement → Fits → Adds → Type 0
-Settled b fits f = (bound : List (List ℕ)) → b.unbuilt bound ≡ None → Fit fits f
+-- what is built adds nothing but sites
+abbrev Settled : built.Statement → Adds → Type 0
+Settled b f = (bound : List (List ℕ)) → b.unbuilt bound ≡ None → Plain f
 
 abbrev IsSettled : Stmt → Type 0
-IsSettled x = Settled (built.stmt x) (breaks_fit x) (survey.stmt x)
+IsSettled x = Settled (built.stmt x) (survey.stmt x)
 
 abbrev Certain : Type 0
 Certain = (x : Stmt) × IsSettled x
@@ -314,23 +271,20 @@ Certain = (x : Stmt) × IsSettled x
 abbrev stmts_of : List Certain → List Stmt
 stmts_of xs = map (λ x. x.0) xs
 
-abbrev fits_of : List Certain → Fits
-fits_of xs = all_fit (map breaks_fit (stmts_of xs))
-
 abbrev adds_of : List Certain → Adds
 adds_of xs = all (map survey.stmt (stmts_of xs))
 
 abbrev unbuilt_of : List Certain → List (List ℕ) → Option ℕ
 unbuilt_of xs = built.all_unbuilt (map built.stmt (stmts_of xs))
 
-beyond : (line : ℕ) (fits : Fits) (f : Adds) → Settled (built.outside line) fits f
-beyond line fits f bound h = absurd (some_none line h)
+beyond : (line : ℕ) (f : Adds) → Settled (built.outside line) f
+beyond line f bound h = absurd (some_none line h)
 
-all_settled : (xs : List Certain) (bound : List (List ℕ)) → unbuilt_of xs bound ≡ None → Fit (fits_of xs) (adds_of xs)
+all_settled : (xs : List Certain) (bound : List (List ℕ)) → unbuilt_of xs bound ≡ None → Plain (adds_of xs)
 all_settled [] bound h = none_plain
 all_settled (x ∷ xs) bound h =
     let parts = before_none ((built.stmt x.0).unbuilt bound) (unbuilt_of xs bound) h in
-    behind (breaks_fit x.0) (fits_of xs) (survey.stmt x.0) (adds_of xs) (x.1 bound parts.0) (all_settled xs bound parts.1)
+    after (survey.stmt x.0) (adds_of xs) (x.1 bound parts.0) (all_settled xs bound parts.1)
 
 abbrev branches_of : List (Branch Certain) → List (Branch Stmt)
 branches_of bs = map (branch_of (λ x. x.0)) bs
@@ -341,41 +295,38 @@ branches_add bs other place s = adds_of other place (all (map branch_adds (map (
 abbrev branches_unbuilt : List (Branch Certain) → List Certain → List (List ℕ) → Option ℕ
 branches_unbuilt bs other = built.branches_unbuilt (map (branch_of built.stmt) (branches_of bs)) (map built.stmt (stmts_of other))
 
-abbrev branches_fits : List (Branch Certain) → List Certain → Fits
-branches_fits bs other = branches_fit (map (branch_of breaks_fit) (branches_of bs)) (map breaks_fit (stmts_of other))
-
-branches_settled : (bs : List (Branch Certain)) (other : List Certain) (bound : List (List ℕ)) → branches_unbuilt bs other bound ≡ None → Fit (branches_fits bs other) (branches_add bs other)
+branches_settled : (bs : List (Branch Certain)) (other : List Certain) (bound : List (List ℕ)) → branches_unbuilt bs other bound ≡ None → Plain (branches_add bs other)
 branches_settled [] other bound h = all_settled other bound h
 branches_settled (b ∷ bs) other bound h =
     let body = unbuilt_of b.body bound in
     let rest = branches_unbuilt bs other bound in
     let parts = before_none ((built.expr b.test).unbuilt bound) (built.before body rest) h in
     let further = before_none body rest parts.1 in
-    behind (fits_of b.body) (branches_fits bs other) (λ place s. adds_of b.body place (survey.value b.test place s)) (branches_add bs other)
-    (behind (λ loop. true) (fits_of b.body) (survey.value b.test) (adds_of b.body) (value_plain bound b.test parts.0) (all_settled b.body bound further.0))
+    after (λ place s. adds_of b.body place (survey.value b.test place s)) (branches_add bs other)
+    (after (survey.value b.test) (adds_of b.body) (value_plain bound b.test parts.0) (all_settled b.body bound further.0))
     (branches_settled bs other bound further.1)
 
 if_settled : (line : ℕ) (bs : List (Branch Certain)) (other : List Certain) (bound : List (List ℕ))
     → built.branching line (map (branch_of built.stmt) (branches_of bs)) (map built.stmt (stmts_of other)) bound ≡ None
-    → Fit (branches_fits bs other) (branches_add bs other)
+    → Plain (branches_add bs other)
 if_settled line [] other bound h = absurd (some_none line h)
 if_settled line (b ∷ bs) other bound h = branches_settled (b ∷ bs) other bound h
 
 while_settled : (test : Expr) (body other : List Certain) (bound : List (List ℕ))
     → built.before ((built.expr test).unbuilt bound) (built.before (unbuilt_of body bound) (unbuilt_of other bound)) ≡ None
-    → Fit (λ loop. fits_of body true && fits_of other loop) (λ place s. adds_of other place (adds_of body (looping place) (survey.value test place s)))
+    → Plain (λ place s. adds_of other place (adds_of body (looping place) (survey.value test place s)))
 while_settled test body other bound h =
     let parts = before_none ((built.expr test).unbuilt bound) (built.before (unbuilt_of body bound) (unbuilt_of other bound)) h in
     let rest = before_none (unbuilt_of body bound) (unbuilt_of other bound) parts.1 in
-    behind (λ loop. fits_of body true) (fits_of other) (λ place s. adds_of body (looping place) (survey.value test place s)) (adds_of other)
-    (behind (λ loop. true) (λ loop. fits_of body true) (survey.value test) (λ place. adds_of body (looping place)) (value_plain bound test parts.0) (λ place. all_settled body bound rest.0 (looping place)))
+    after (λ place s. adds_of body (looping place) (survey.value test place s)) (adds_of other)
+    (after (survey.value test) (λ place. adds_of body (looping place)) (value_plain bound test parts.0) (λ place. all_settled body bound rest.0 (looping place)))
     (all_settled other bound rest.1)
 
 abbrev laid : Stmt-F Certain → Stmt-F Stmt
 laid y = map-Stmt Certain Stmt (λ x. x.0) y
 
 rows : (y : Stmt-F Certain)
-    → Settled (built.stmt_row (map-Stmt Stmt built.Statement built.stmt (laid y))) (stmt_fits (map-Stmt Stmt Fits breaks_fit (laid y))) (survey.stmt_adds (map-Stmt Stmt Adds survey.stmt (laid y)))
+    → Settled (built.stmt_row (map-Stmt Stmt built.Statement built.stmt (laid y))) (survey.stmt_adds (map-Stmt Stmt Adds survey.stmt (laid y)))
 rows (Stmt-F.Expr line x) = λ bound h. value_plain bound x h
 rows (Stmt-F.Assign line ts x) = λ bound h.
     let parts = before_none (built.first (map built.target ts)) ((built.expr x).unbuilt bound) h in
@@ -384,33 +335,32 @@ rows (Stmt-F.Augment line to operator x) = λ bound h.
     let parts = before_none (built.target to) ((built.expr x).unbuilt bound) h in
     after (survey.expr to role.Augmented) (survey.value x) (target_plain to parts.0 role.Augmented) (value_plain bound x parts.1)
 rows (Stmt-F.Pass line) = λ bound h. none_plain
-rows (Stmt-F.Break line) = λ bound h. break_fits line
-rows (Stmt-F.Continue line) = λ bound h. break_fits line
-rows (Stmt-F.Return line x) = beyond line _ _
-rows (Stmt-F.Raise line x) = beyond line _ _
-rows (Stmt-F.Del line to) = beyond line _ _
-rows (Stmt-F.Assert line test text) = beyond line _ _
-rows (Stmt-F.Global line names) = beyond line _ _
-rows (Stmt-F.Nonlocal line names) = beyond line _ _
+rows (Stmt-F.Break line) = λ bound h. site_plain line what.Break refl
+rows (Stmt-F.Continue line) = λ bound h. site_plain line what.Break refl
+rows (Stmt-F.Return line x) = beyond line _
+rows (Stmt-F.Raise line x) = beyond line _
+rows (Stmt-F.Del line to) = beyond line _
+rows (Stmt-F.Assert line test text) = beyond line _
+rows (Stmt-F.Global line names) = beyond line _
+rows (Stmt-F.Nonlocal line names) = beyond line _
 rows (Stmt-F.If line bs other) = if_settled line bs other
 rows (Stmt-F.While line test body other) = while_settled test body other
-rows (Stmt-F.For line to over body other) = beyond line _ _
-rows (Stmt-F.Try line body handlers other final) = beyond line _ _
-rows (Stmt-F.With line managers body) = beyond line _ _
-rows (Stmt-F.Def line decorators x params body) = beyond line _ _
-rows (Stmt-F.Class line decorators x base body) = beyond line _ _
+rows (Stmt-F.For line to over body other) = beyond line _
+rows (Stmt-F.Try line body handlers other final) = beyond line _
+rows (Stmt-F.With line managers body) = beyond line _
+rows (Stmt-F.Def line decorators x params body) = beyond line _
+rows (Stmt-F.Class line decorators x base body) = beyond line _
 
 pub stmt_settled : (x : Stmt) → IsSettled x
 stmt_settled = ind-Stmt IsSettled (λ x y is.
     let z = laid y in
     subst (λ z. IsSettled (roll-Stmt z)) is
-    (subst (λ b. Settled b (breaks_fit (roll-Stmt z)) (survey.stmt (roll-Stmt z))) (sym (fold-roll-Stmt built.Statement built.stmt_row z))
-    (subst (λ g. Settled (built.stmt_row (map-Stmt Stmt built.Statement built.stmt z)) g (survey.stmt (roll-Stmt z))) (sym (fold-roll-Stmt Fits stmt_fits z))
-    (subst (λ f. Settled (built.stmt_row (map-Stmt Stmt built.Statement built.stmt z)) (stmt_fits (map-Stmt Stmt Fits breaks_fit z)) f) (sym (fold-roll-Stmt Adds survey.stmt_adds z)) (rows y)))))
+    (subst (λ b. Settled b (survey.stmt (roll-Stmt z))) (sym (fold-roll-Stmt built.Statement built.stmt_row z))
+    (subst (λ f. Settled (built.stmt_row (map-Stmt Stmt built.Statement built.stmt z)) f) (sym (fold-roll-Stmt Adds survey.stmt_adds z)) (rows y))))
 
 -- statements that are built add nothing but sites
-pub stmts_settled : (xs : List Stmt) (bound : List (List ℕ)) → built.all_unbuilt (map built.stmt xs) bound ≡ None → Fit (all_breaks_fit xs) (survey.stmts xs)
+pub stmts_settled : (xs : List Stmt) (bound : List (List ℕ)) → built.all_unbuilt (map built.stmt xs) bound ≡ None → Plain (survey.stmts xs)
 stmts_settled [] bound h = none_plain
 stmts_settled (x ∷ xs) bound h =
     let parts = before_none ((built.stmt x).unbuilt bound) (built.all_unbuilt (map built.stmt xs) bound) h in
-    behind (breaks_fit x) (all_breaks_fit xs) (survey.stmt x) (survey.stmts xs) (stmt_settled x bound parts.0) (stmts_settled xs bound parts.1)
+    after (survey.stmt x) (survey.stmts xs) (stmt_settled x bound parts.0) (stmts_settled xs bound parts.1)

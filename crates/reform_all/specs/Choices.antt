@@ -1,9 +1,8 @@
 -- What the branches of an `if` statement become.
-use Rattle.std.specs.Prelude.{◌≡◌, ℕ, ◌≤◌, Bool, List, [], ◌∷◌, Option}
+use Rattle.std.specs.Prelude.{◌≡◌, ℕ, ◌≤◌, List, [], ◌∷◌, Option}
 use Rattle.node_tree.specs.declared.node.Node.{Node}
 use Rattle.node_tree.specs.Tree as tree
 use Rattle.py_meaning.specs.Syntax as syntax
-use Rattle.py_lawful.specs.Constructs.{Room, LawfulExpression, LawfulBlock}
 use Rattle.py_meaning.specs.Resolved.{alone}
 use Rattle.nu_carries.specs.Frames.{Homes, behind}
 use Rattle.nu_carries.specs.Carries.{CarriesExpression, CarriesStatement, CarriesBlock}
@@ -40,8 +39,3 @@ CarriesChain h low high caught (a ∷ arms) other nodes = CarriesStatement h low
 abbrev pub Chained : List Choice → ℕ → ℕ → List Node → List Node → Type 0
 Chained ps old new other nodes =
     (h : Homes) (low : ℕ) (caught : Option ℕ) (arms : List Arm) (o : syntax.Block) → behind h ≤ low → low ≤ old → CarriesArms h low old caught arms ps → CarriesBlock h low old caught o (tree.block other) → CarriesChain h low new caught arms o nodes
-
--- no branch can go wrong
-abbrev pub LawfulArms : Room → Bool → List Arm → Type 0
-LawfulArms r loop [] = Unit {0}
-LawfulArms r loop (a ∷ arms) = LawfulExpression r a.test × LawfulBlock r loop a.body × LawfulArms r loop arms

@@ -8,7 +8,6 @@ use Rattle.node_tree.specs.Tree.{block}
 use Rattle.py_meaning.specs.Syntax as syntax
 use Rattle.py_meaning.specs.Resolved as meaning
 use Rattle.py_meaning.specs.Resolved.{Context, Making, pure, home_in}
-use Rattle.py_lawful.specs.Constructs.{Room, LawfulExpression}
 use Rattle.nu_carries.specs.Frames.{Homes, behind}
 use Rattle.nu_carries.specs.Carries.{CarriesExpression}
 use Rattle.reform_base.specs.declared.Part.{Part}
@@ -44,8 +43,6 @@ pub record IsExpressed (bound : List (List ℕ)) (x : Expr) (old new : ℕ) (p :
   pub means : (c : Context) → InModule c → syntax.Expression
   pub is : (c : Context) → (m : InModule c) → Is ((meaning.expr x).value c) (means c m)
   pub carries : (c : Context) → (m : InModule c) → (h : Homes) (low : ℕ) → behind h ≤ low → low ≤ old → CarriesExpression h low new (means c m) (block p.block) p.value
-  -- it can't go wrong
-  pub lawful : (c : Context) → (m : InModule c) → (r : Room) → LawfulExpression r (means c m)
   -- each operation takes what it is given, and there is no pause
   pub taken : refused (block p.block) ≡ 0
   pub yields : yields (block p.block) ≡ 0

@@ -2,7 +2,6 @@ pub mod Built
 pub mod Names
 pub mod Taken
 pub mod Expressions
-pub mod Loops
 pub mod Module
 pub mod Quiet
 pub mod Assignments

@@ -5,11 +5,7 @@ use Rattle.nu_run.specs.Runs.{Same}
 use Rattle.nu_value.specs.declared.header.Header.{Header}
 use Rattle.nu_calls.specs.Rules.{Rules}
 use Rattle.py_ast.specs.declared.scoped.Scoped.{Scoped}
-use Rattle.py_scopes.specs.Survey.{surveyed}
-use Rattle.py_scopes.specs.Rules.{KeepsAll}
-use Rattle.py_meaning.specs.Resolved.{codes_of}
 use Rattle.py_meaning.specs.Script.{py_run, all_codes}
-use Rattle.py_lawful.specs.Constructs.{LawfulCodes}
 use Rattle.node_tree.specs.declared.script.NodeScript.{NodeScript}
 use Rattle.node_tree.specs.Contents.{yields}
 use Rattle.node_tree.specs.Run.{node_run, header}
@@ -24,8 +20,7 @@ abbrev pub module_header : Header
 module_header = record { scope = codes "<module>"; params = []; generator = false; line = 1 }
 
 -- the nodes have this file name and the codes of the script by their numbers, which is one yet, and do what the script does, under all
--- rules of operations and over every input. Each operation in them is there and takes what it is given, no pause stands in them, and
--- where the script keeps the static rules it can't go wrong
+-- rules of operations and over every input. Each operation in them is there and takes what it is given, and no pause stands in them
 pub record IsReformed (file : List ℕ) (s : Scoped) (nodes : NodeScript) : Type 0 where
   pub built : first_unbuilt s.script.statements ≡ None
   pub name : nodes.name ≡ file
@@ -36,7 +31,6 @@ pub record IsReformed (file : List ℕ) (s : Scoped) (nodes : NodeScript) : Type
   pub same : (rules : Rules) (input : List ℕ) → Same (py_run rules file s None input) (node_run rules nodes input)
   pub taken : AllByRecursion (λ code. refused (block code.body) ≡ 0) nodes.codes
   pub yields : AllByRecursion (λ code. yields (block code.body) ≡ 0) nodes.codes
-  pub lawful : KeepsAll (surveyed s.script.statements) → LawfulCodes (codes_of 0 s)
 
 abbrev pub Reformed : List ℕ → Scoped → Result NodeScript ReformEnd → Type 0
 Reformed name s (Ok nodes) = IsReformed name s nodes

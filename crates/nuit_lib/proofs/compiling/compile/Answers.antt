@@ -1,3 +1,4 @@
+use Rattle.std.proofs.Common.{refl}
 use Rattle.nuit_lib.proofs.Composed.{flat_yields, counted, headings, all_taken, is_program}
 use Rattle.nuit_lib.proofs.compiling.compile.Goals as goal
 use Rattle.c_emit.specs.Program.{program_of}
@@ -23,5 +24,5 @@ returns c = record {
   program = program_of c.in_ok-code.code;
   is_text = c.in_ok-text.ensures.text;
   is = is_program _ c.args.script.now c.in_ok-nodes.nodes c.in_ok-flat.flat c.in_ok-code.code c.in_ok-nodes.ensures c.in_ok-flat.ensures.lowers c.in_ok-flat.ensures.keeps c.in_ok-code.ensures.heads c.in_ok-code.ensures.keeps
-      c.runs_never_end_undefined.ensures c.the_table_keeps_law.ensures c.in_ok-flat.ensures.same c.in_ok-code.ensures.same c.in_ok-text.ensures.same c.in_ok-text.ensures.heads (c.in_ok-nodes.ensures.lawful c.requires.keeps);
+      c.runs_never_end_undefined.ensures c.the_table_keeps_law.ensures c.accepted_scripts_never_end_undefined.ensures c.in_ok-flat.ensures.same c.in_ok-code.ensures.same c.in_ok-text.ensures.same c.in_ok-text.ensures.heads (refl, (c.requires.scopes, c.requires.keeps));
 }

@@ -1,0 +1,437 @@
+//! What operations give that change no object, and what operands hold, without the table.
+
+ghost use Rattle.std.specs.Prelude.{◌≡◌, ◌+◌, ◌<◌, ◌^◌, ◌∷◌, [], ℕ, List, Option, Some, None, IfSome, true, false};
+ghost use Rattle.nu_value.specs.declared.value.Value.TheVariants as value;
+ghost use Rattle.op_rules.specs.declared.end.OpEnd.TheVariants as opend;
+ghost use Rattle.op_rules.specs.declared.op.Op.TheVariants as op;
+ghost use Rattle.op_rules.specs.Fits.{is_in};
+ghost use Rattle.op_rules.specs.IntRows.{int_row};
+ghost use Rattle.op_rules.specs.Numbers.{computed_end};
+ghost use Rattle.c_meaning.specs.declared.program.Operand.TheVariants as operand;
+ghost use Rattle.c_meaning.specs.Step as meaning;
+ghost use Rattle.c_machine.specs.Effects.{answered};
+ghost use Rattle.c_machine.specs.Places.{Keeps, Right, asked, module_names};
+ghost use Rattle.c_machine.specs.InPlace.{bool_of, given, int_of, is_quick, truth_of};
+
+use crate::execution::held;
+use crate::lookup::{Hint, look_up, value_in};
+use c_meaning::{Argument, Operand};
+use nu_value::{Slots, Value};
+use op_rules::{Computed, Op, compute};
+use runtime_table::World;
+
+// The bool that a register has, if it has one.
+#[inline]
+fn bool_in(registers: &Slots, register: u64) -> Option<bool>
+    ensures { result ≡ bool_of (meaning.held registers.now (operand.Register register)) }
+{
+    match registers.get(register as usize) {
+        Some(Some(Value::Bool(truth))) => Some(*truth),
+        _ => None,
+    }
+}
+
+/// The bool that an operand is, if it is one.
+#[inline]
+pub(crate) fn bool_at(registers: &Slots, operand: &Operand) -> Option<bool>
+    ensures { result ≡ bool_of (meaning.held registers.now operand.now) }
+{
+    if let Operand::Register(register) = operand {
+        return bool_in(registers, *register);
+    }
+    written_bool(operand)
+}
+
+// The bool that is written as an operand, if it is one.
+#[cold]
+#[inline(never)]
+fn written_bool(operand: &Operand) -> Option<bool>
+    ensures { result ≡ bool_of (meaning.held [] operand.now) }
+{
+    match operand {
+        Operand::True => Some(true),
+        Operand::False => Some(false),
+        _ => None,
+    }
+}
+
+// The integer that an operand is, if it is one.
+#[inline]
+fn int_at(registers: &Slots, operand: &Operand) -> Option<i128>
+    ensures { result ≡ int_of (meaning.held registers.now operand.now) }
+{
+    if let Operand::Register(register) = operand {
+        return match registers.get(*register as usize) {
+            Some(Some(Value::Int(number))) => Some(*number),
+            _ => None,
+        };
+    }
+    if let Operand::Int(number) = operand {
+        return Some(*number);
+    }
+    None
+}
+
+// The truth value of an operand that is no object.
+#[inline]
+fn truth_at(registers: &Slots, operand: &Operand) -> Option<bool>
+    ensures { result ≡ truth_of (meaning.held registers.now operand.now) }
+{
+    match operand {
+        Operand::Register(register) => match registers.get(*register as usize) {
+            Some(Some(Value::Int(number))) => Some(*number != 0),
+            Some(Some(Value::Bool(truth))) => Some(*truth),
+            Some(Some(Value::None)) => Some(false),
+            _ => None,
+        },
+        Operand::None => Some(false),
+        Operand::True => Some(true),
+        Operand::False => Some(false),
+        Operand::Int(number) => Some(*number != 0),
+        Operand::Str(_) => None,
+    }
+}
+
+// The integer that an argument is, if it is one.
+#[inline]
+fn int_in(registers: &Slots, argument: &Argument) -> Option<i128>
+    ensures { result ≡ int_of (meaning.argument_value registers.now argument.now) }
+{
+    match argument {
+        Argument::Value(operand) => int_at(registers, operand),
+        Argument::Name(_) => None,
+    }
+}
+
+// The same value once more, if there is memory for it.
+#[inline]
+fn copied(value: &Value) -> Option<Value>
+    ensures { IfSome result (λ v. v ≡ value.now) }
+{
+    match value.copy() {
+        Ok(value) => Some(value),
+        Err(_) => None,
+    }
+}
+
+// The same value once more, if it is an integer or an object.
+#[inline]
+fn plain(value: &Value) -> Option<Value>
+    ensures { IfSome result (λ v. v ≡ value.now) }
+{
+    if let Value::Int(number) = value {
+        return Some(Value::Int(*number));
+    }
+    if let Value::Obj(number) = value {
+        return Some(Value::Obj(*number));
+    }
+    None
+}
+
+/// What a register or a written integer holds, if that is an integer or an object.
+#[inline]
+pub(crate) fn plain_at(registers: &Slots, operand: &Operand) -> Option<Value>
+    ensures { IfSome result (λ v. meaning.held registers.now operand.now ≡ Some v) }
+{
+    if let Operand::Register(register) = operand {
+        return match registers.get(*register as usize) {
+            Some(Some(value)) => plain(value),
+            _ => None,
+        };
+    }
+    if let Operand::Int(number) = operand {
+        return Some(Value::Int(*number));
+    }
+    None
+}
+
+/// What an operand holds, if it has a value and there is memory for it.
+#[inline]
+pub(crate) fn held_by(registers: &Slots, operand: &Operand) -> Option<Value>
+    ensures { IfSome result (λ v. meaning.held registers.now operand.now ≡ Some v) }
+{
+    match held(registers, operand) {
+        Ok(held) => held,
+        Err(_) => None,
+    }
+}
+
+// The integer of what was computed, if it is one.
+#[inline]
+fn number(found: Computed) -> Option<Value>
+    ensures { IfSome result (λ v. computed_end found ≡ opend.Give v) }
+{
+    match found {
+        Computed::Int(number) => Some(Value::Int(number)),
+        _ => None,
+    }
+}
+
+// What an operation on two integers gives, if it gives a value.
+#[inline]
+fn of_integers(op: Op, a: i128, b: i128) -> Option<Value>
+    ensures quick { IfSome result (λ _. is_quick op ≡ true) }
+    ensures value { IfSome result (λ v. int_row op [] (value.Int a ∷ value.Int b ∷ []) ≡ opend.Give v) }
+{
+    match op {
+        Op::Add => number(compute(Op::Add, a, b)),
+        Op::IAdd => number(compute(Op::IAdd, a, b)),
+        Op::Sub => number(compute(Op::Sub, a, b)),
+        Op::Mul => number(compute(Op::Mul, a, b)),
+        Op::IMul => number(compute(Op::IMul, a, b)),
+        Op::FloorDiv => number(compute(Op::FloorDiv, a, b)),
+        Op::Mod => number(compute(Op::Mod, a, b)),
+        Op::Pow => number(compute(Op::Pow, a, b)),
+        Op::LShift => number(compute(Op::LShift, a, b)),
+        Op::RShift => number(compute(Op::RShift, a, b)),
+        Op::And => number(compute(Op::And, a, b)),
+        Op::Or => number(compute(Op::Or, a, b)),
+        Op::Xor => number(compute(Op::Xor, a, b)),
+        _ => None,
+    }
+}
+
+// How two integers compare, if the operation compares.
+#[inline]
+#[tactic(auto, using(crate::proofs::InPlace::eq_integers, crate::proofs::InPlace::ne_integers))]
+fn comparison(op: Op, a: i128, b: i128) -> Option<bool>
+    ensures quick { IfSome result (λ _. is_quick op ≡ true) }
+    ensures value { IfSome result (λ t. int_row op [] (value.Int a ∷ value.Int b ∷ []) ≡ opend.Give (value.Bool t)) }
+{
+    match op {
+        Op::Lt => Some(a < b),
+        Op::Le => Some(a <= b),
+        Op::Gt => Some(a > b),
+        Op::Ge => Some(a >= b),
+        Op::Eq => Some(a == b),
+        Op::Ne => Some(a != b),
+        _ => None,
+    }
+}
+
+// What an operation gives whose two arguments are integers, if it gives a value.
+#[inline]
+fn of_two(registers: &Slots, world: &World, op: Op, a: &Argument, b: &Argument) -> Option<Value>
+    ensures { IfSome result (λ v. answered world.now op (meaning.values registers.now (a.now ∷ b.now ∷ [])) ≡ Some (given world.now.heap v)) }
+{
+    match (int_in(registers, a), int_in(registers, b)) {
+        (Some(x), Some(y)) => of_integers(op, x, y),
+        _ => None,
+    }
+}
+
+#[inline]
+pub(crate) fn numbers_value(
+    registers: &Slots,
+    world: &World,
+    op: Op,
+    arguments: &[Argument],
+) -> Option<Value>
+    ensures { IfSome result (λ v. answered world.now op (meaning.values registers.now arguments.now) ≡ Some (given world.now.heap v)) }
+{
+    match arguments {
+        [a, b] => of_two(registers, world, op, a, b),
+        _ => None,
+    }
+}
+
+// How the two arguments of an operation compare that are integers, if it compares them.
+#[inline]
+fn compared_two(
+    registers: &Slots,
+    world: &World,
+    op: Op,
+    a: &Argument,
+    b: &Argument,
+) -> Option<bool>
+    ensures { IfSome result (λ t. answered world.now op (meaning.values registers.now (a.now ∷ b.now ∷ [])) ≡ Some (given world.now.heap (value.Bool t))) }
+{
+    match (int_in(registers, a), int_in(registers, b)) {
+        (Some(x), Some(y)) => comparison(op, x, y),
+        _ => None,
+    }
+}
+
+#[inline]
+pub(crate) fn compared(
+    registers: &Slots,
+    world: &World,
+    op: Op,
+    arguments: &[Argument],
+) -> Option<bool>
+    ensures { IfSome result (λ t. answered world.now op (meaning.values registers.now arguments.now) ≡ Some (given world.now.heap (value.Bool t))) }
+{
+    match arguments {
+        [a, b] => compared_two(registers, world, op, a, b),
+        _ => None,
+    }
+}
+
+/// The truth value of an argument that is no object.
+#[inline]
+#[tactic(auto, using(crate::proofs::InPlace::truth_answered))]
+pub(crate) fn truth_value(registers: &Slots, world: &World, arguments: &[Argument]) -> Option<Value>
+    ensures { IfSome result (λ v. answered world.now op.Truth (meaning.values registers.now arguments.now) ≡ Some (given world.now.heap v)) }
+{
+    let [Argument::Value(operand)] = arguments else {
+        return None;
+    };
+    match truth_at(registers, operand) {
+        Some(truth) => Some(Value::Bool(truth)),
+        None => None,
+    }
+}
+
+/// The truth value of an argument that is a register with a bool.
+#[inline]
+#[tactic(auto, using(crate::proofs::InPlace::bool_answered))]
+pub(crate) fn known_truth(registers: &Slots, world: &World, arguments: &[Argument]) -> Option<bool>
+    ensures { IfSome result (λ t. answered world.now op.Truth (meaning.values registers.now arguments.now) ≡ Some (given world.now.heap (value.Bool t))) }
+{
+    let [Argument::Value(Operand::Register(register))] = arguments else {
+        return None;
+    };
+    bool_in(registers, *register)
+}
+
+// The other bool.
+#[inline]
+#[tactic(auto, using(crate::proofs::InPlace::not_answered))]
+fn not_value(registers: &Slots, world: &World, arguments: &[Argument]) -> Option<Value>
+    ensures { IfSome result (λ v. answered world.now op.Not (meaning.values registers.now arguments.now) ≡ Some (given world.now.heap v)) }
+{
+    let [Argument::Value(operand)] = arguments else {
+        return None;
+    };
+    match bool_at(registers, operand) {
+        Some(truth) => Some(Value::Bool(!truth)),
+        None => None,
+    }
+}
+
+/// Whether it is a value, and the object that it names is there.
+#[inline]
+pub(crate) fn is_there(count: u64, value: &Value) -> bool
+    ensures { result ≡ is_in count value.now }
+{
+    match value {
+        Value::Unset => false,
+        Value::Obj(number) => *number < count,
+        _ => true,
+    }
+}
+
+// What an argument holds, if it has a value that is set, of an object that is there, and there is memory for it.
+#[inline]
+fn known(registers: &Slots, count: u64, argument: &Argument) -> Option<Value>
+    ensures value { IfSome result (λ v. meaning.argument_value registers.now argument.now ≡ Some v) }
+    ensures known { IfSome result (λ v. is_in count v ≡ true) }
+{
+    let Argument::Value(operand) = argument else {
+        return None;
+    };
+    match held_by(registers, operand) {
+        Some(value) if is_there(count, &value) => Some(value),
+        _ => None,
+    }
+}
+
+// Whether two values are identical.
+#[inline(never)]
+#[tactic(auto, using(crate::proofs::InPlace::is_answered))]
+fn is_value(registers: &Slots, world: &World, arguments: &[Argument]) -> Option<Value>
+    ensures { IfSome result (λ v. answered world.now op.Is (meaning.values registers.now arguments.now) ≡ Some (given world.now.heap v)) }
+{
+    let [a, b] = arguments else {
+        return None;
+    };
+    let count = world.heap.len();
+    match (known(registers, count, a), known(registers, count, b)) {
+        (Some(x), Some(y)) => Some(Value::Bool(x.is_identical(&y))),
+        _ => None,
+    }
+}
+
+// Whether two values aren't identical.
+#[inline(never)]
+#[tactic(auto, using(crate::proofs::InPlace::isnot_answered))]
+fn isnot_value(registers: &Slots, world: &World, arguments: &[Argument]) -> Option<Value>
+    ensures { IfSome result (λ v. answered world.now op.IsNot (meaning.values registers.now arguments.now) ≡ Some (given world.now.heap v)) }
+{
+    let [a, b] = arguments else {
+        return None;
+    };
+    let count = world.heap.len();
+    match (known(registers, count, a), known(registers, count, b)) {
+        (Some(x), Some(y)) => Some(Value::Bool(!x.is_identical(&y))),
+        _ => None,
+    }
+}
+
+/// The value of a name, for the statement at this place.
+#[inline]
+#[tactic(auto, using(crate::proofs::InPlace::global_answered))]
+pub(crate) fn global_value(
+    registers: &Slots,
+    world: &World,
+    arguments: &[Argument],
+    at: u64,
+    hint: &mut Hint,
+) -> Option<Value>
+    requires small { at + 1 < 2 ^ 64 }
+    requires right { (name : List ℕ) → asked op.Global arguments.now ≡ Some name → Right (module_names world.now) name at hint.old }
+    ensures value { IfSome result (λ v. answered world.now op.Global (meaning.values registers.now arguments.now) ≡ Some (given world.now.heap v)) }
+    ensures hint { Keeps (module_names world.now) (asked op.Global arguments.now) at hint.old hint.new }
+{
+    let [Argument::Name(name)] = arguments else {
+        return None;
+    };
+    match look_up(world, name.as_str(), at, hint) {
+        Some(value) => copied(value),
+        None => None,
+    }
+}
+
+/// The value of a name of the module where the statement at this place found it, if that is an integer or an object.
+#[inline]
+#[tactic(auto, using(crate::proofs::InPlace::global_answered))]
+pub(crate) fn found_value(
+    registers: &Slots,
+    world: &World,
+    arguments: &[Argument],
+    at: u64,
+    hint: Hint,
+) -> Option<Value>
+    requires small { at + 1 < 2 ^ 64 }
+    requires right { (name : List ℕ) → asked op.Global arguments.now ≡ Some name → Right (module_names world.now) name at hint }
+    ensures { IfSome result (λ v. answered world.now op.Global (meaning.values registers.now arguments.now) ≡ Some (given world.now.heap v)) }
+{
+    let [Argument::Name(_)] = arguments else {
+        return None;
+    };
+    if hint.next != at + 1 {
+        return None;
+    }
+    match value_in(&world.heap, world.module, hint.place) {
+        Some(value) => plain(value),
+        None => None,
+    }
+}
+
+/// What an operation gives that changes no object, if it is one of these.
+#[inline]
+pub(crate) fn value_of(
+    registers: &Slots,
+    world: &World,
+    op: Op,
+    arguments: &[Argument],
+) -> Option<Value>
+    ensures { IfSome result (λ v. answered world.now op (meaning.values registers.now arguments.now) ≡ Some (given world.now.heap v)) }
+{
+    match op {
+        Op::Not => not_value(registers, world, arguments),
+        Op::Is => is_value(registers, world, arguments),
+        Op::IsNot => isnot_value(registers, world, arguments),
+        _ => numbers_value(registers, world, op, arguments),
+    }
+}

@@ -1,0 +1,11 @@
+pub mod Decorated
+pub mod Classes
+pub mod Turned
+pub mod Ranges
+pub mod Clauses
+pub mod Collected
+pub mod Sent
+pub mod Between
+pub mod Delegated
+pub mod Told
+pub mod Whole

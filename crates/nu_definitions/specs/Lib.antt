@@ -1,0 +1,5 @@
+pub mod Decorated
+pub mod Collected
+pub mod Delegated
+pub mod Told
+pub mod Laws

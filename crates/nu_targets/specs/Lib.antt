@@ -1,0 +1,5 @@
+pub mod Places
+pub mod Targets
+pub mod Augments
+pub mod Deletions
+pub mod Laws

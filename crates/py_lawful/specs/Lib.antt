@@ -1,4 +1,0 @@
-pub mod Heaps
-pub mod Rules
-pub mod Constructs
-pub mod Laws
