@@ -104,9 +104,6 @@ truth_answered (Some (value.Int z)) b w h = ap (λ o. Some (given w.heap (value.
 truth_answered (Some (value.Str text)) b w h = cc
 truth_answered (Some (value.Obj n)) b w h = cc
 
-pub bool_answered : (o : Option Value) (b : Bool) (w : World) → bool_of o ≡ Some b → answered w op.Truth (both o (Some [])) ≡ Some (given w.heap (value.Bool b))
-bool_answered o b w h = ap (λ x. answered w op.Truth (both x (Some []))) (truth o b h)
-
 pub not_answered : (o : Option Value) (b : Bool) (w : World) → bool_of o ≡ Some b → answered w op.Not (both o (Some [])) ≡ Some (given w.heap (value.Bool (not b)))
 not_answered o b w h = ap (λ x. answered w op.Not (both x (Some []))) (truth o b h)
 

@@ -3,6 +3,7 @@
 ghost use Rattle.std.specs.Prelude.{◌≡◌, ◌+◌, ◌<◌, ◌≤◌, ◌^◌, [], ℕ, List, Option, OnSome, Some, None, true, false, slice_get, option_copied};
 ghost use Rattle.op_rules.specs.declared.op.Op.TheVariants as op;
 ghost use Rattle.nu_calls.specs.Rules.{table_rules};
+ghost use Rattle.c_meaning.specs.declared.program.Operand.TheVariants as operand;
 ghost use Rattle.c_meaning.specs.Step as meaning;
 ghost use Rattle.c_meaning.specs.State as states;
 ghost use Rattle.nu_run.specs.Steps.{More};
@@ -15,8 +16,8 @@ use crate::binding::{set_found, set_global};
 use crate::execution::Execution;
 use crate::lookup::Hint;
 use crate::values::{
-    bool_at, compared, found_value, global_value, held_by, known_truth, numbers_value, truth_value,
-    value_of,
+    bool_at, bool_in, compared, found_value, global_value, held_by, numbers_value, register_truth,
+    truth_value, value_of,
 };
 use c_meaning::{Argument, Code, Operand, Placed, Statement, Stored};
 use nu_value::Value;
@@ -72,7 +73,7 @@ impl Execution {
         }
     }
 
-    // The truth value of a bool, or of another value that is no object.
+    // The truth value of what is no text and no object.
     #[inline(never)]
     #[tactic(auto, using(crate::proofs::InPlace::operates_on, crate::proofs::Places::stays_behind))]
     fn tests(&mut self, to: u64, arguments: &[Argument]) -> bool
@@ -81,7 +82,7 @@ impl Execution {
         ensures same { result ≡ false → self.new ≡ self.old }
         ensures stays { Stays self.old self.new }
     {
-        match known_truth(&self.registers, &self.world, arguments) {
+        match register_truth(&self.registers, &self.world, arguments) {
             Some(truth) => {
                 self.advance(to, Value::Bool(truth));
                 true
@@ -99,8 +100,8 @@ impl Execution {
         ensures stays { Stays self.old self.new }
     {
         match truth_value(&self.registers, &self.world, arguments) {
-            Some(value) => {
-                self.advance(to, value);
+            Some(truth) => {
+                self.advance(to, Value::Bool(truth));
                 true
             }
             None => false,
@@ -314,9 +315,29 @@ impl Execution {
         }
     }
 
+    // The bool of a register decides where the run goes on.
     #[inline]
     #[tactic(auto, using(crate::proofs::InPlace::branches_false, crate::proofs::Places::stays_alike))]
-    fn chooses(&mut self, goal: Option<u64>, test: &Operand) -> bool
+    fn chooses_by(&mut self, goal: Option<u64>, register: u64) -> bool
+        requires { self.old.place + 1 < 2 ^ 64 }
+        ensures goes { result ≡ true → GoesOn (λ c s. meaning.branches s goal (meaning.held self.old.registers (operand.Register register))) self.old self.new }
+        ensures same { result ≡ false → self.new ≡ self.old }
+        ensures stays { Stays self.old self.new }
+    {
+        match bool_in(&self.registers, register) {
+            Some(true) => self.leaps(goal),
+            Some(false) => {
+                self.place += 1;
+                true
+            }
+            None => false,
+        }
+    }
+
+    #[cold]
+    #[inline(never)]
+    #[tactic(auto, using(crate::proofs::InPlace::branches_false, crate::proofs::Places::stays_alike))]
+    fn chooses_any(&mut self, goal: Option<u64>, test: &Operand) -> bool
         requires { self.old.place + 1 < 2 ^ 64 }
         ensures goes { result ≡ true → GoesOn (λ c s. meaning.branches s goal (meaning.held self.old.registers test.now)) self.old self.new }
         ensures same { result ≡ false → self.new ≡ self.old }
@@ -330,6 +351,19 @@ impl Execution {
             }
             None => false,
         }
+    }
+
+    #[inline]
+    fn chooses(&mut self, goal: Option<u64>, test: &Operand) -> bool
+        requires { self.old.place + 1 < 2 ^ 64 }
+        ensures goes { result ≡ true → GoesOn (λ c s. meaning.branches s goal (meaning.held self.old.registers test.now)) self.old self.new }
+        ensures same { result ≡ false → self.new ≡ self.old }
+        ensures stays { Stays self.old self.new }
+    {
+        if let Operand::Register(register) = test {
+            return self.chooses_by(goal, *register);
+        }
+        self.chooses_any(goal, test)
     }
 
     // Takes a statement; where that isn't done in place, nothing has changed.

@@ -20,9 +20,9 @@ use nu_value::{Slots, Value};
 use op_rules::{Computed, Op, compute};
 use runtime_table::World;
 
-// The bool that a register has, if it has one.
+/// The bool that a register has, if it has one.
 #[inline]
-fn bool_in(registers: &Slots, register: u64) -> Option<bool>
+pub(crate) fn bool_in(registers: &Slots, register: u64) -> Option<bool>
     ensures { result ≡ bool_of (meaning.held registers.now (operand.Register register)) }
 {
     match registers.get(register as usize) {
@@ -72,18 +72,40 @@ fn int_at(registers: &Slots, operand: &Operand) -> Option<i128>
     None
 }
 
-// The truth value of an operand that is no object.
+// The truth value of a value that is no text and no object.
 #[inline]
+fn truth(value: &Value) -> Option<bool>
+    ensures { result ≡ truth_of (Some value.now) }
+{
+    if let Value::Int(number) = value {
+        return Some(*number != 0);
+    }
+    if let Value::Bool(truth) = value {
+        return Some(*truth);
+    }
+    if let Value::None = value {
+        return Some(false);
+    }
+    None
+}
+
+// The truth value of what a register has, if that is no text and no object.
+#[inline]
+fn truth_in(registers: &Slots, register: u64) -> Option<bool>
+    ensures { result ≡ truth_of (meaning.held registers.now (operand.Register register)) }
+{
+    match registers.get(register as usize) {
+        Some(Some(value)) => truth(value),
+        _ => None,
+    }
+}
+
+// The truth value of an operand that is no text and no object.
 fn truth_at(registers: &Slots, operand: &Operand) -> Option<bool>
     ensures { result ≡ truth_of (meaning.held registers.now operand.now) }
 {
     match operand {
-        Operand::Register(register) => match registers.get(*register as usize) {
-            Some(Some(Value::Int(number))) => Some(*number != 0),
-            Some(Some(Value::Bool(truth))) => Some(*truth),
-            Some(Some(Value::None)) => Some(false),
-            _ => None,
-        },
+        Operand::Register(register) => truth_in(registers, *register),
         Operand::None => Some(false),
         Operand::True => Some(true),
         Operand::False => Some(false),
@@ -267,31 +289,32 @@ pub(crate) fn compared(
     }
 }
 
-/// The truth value of an argument that is no object.
+/// The truth value of an argument that is a register, if that has no text and no object.
 #[inline]
 #[tactic(auto, using(crate::proofs::InPlace::truth_answered))]
-pub(crate) fn truth_value(registers: &Slots, world: &World, arguments: &[Argument]) -> Option<Value>
-    ensures { IfSome result (λ v. answered world.now op.Truth (meaning.values registers.now arguments.now) ≡ Some (given world.now.heap v)) }
-{
-    let [Argument::Value(operand)] = arguments else {
-        return None;
-    };
-    match truth_at(registers, operand) {
-        Some(truth) => Some(Value::Bool(truth)),
-        None => None,
-    }
-}
-
-/// The truth value of an argument that is a register with a bool.
-#[inline]
-#[tactic(auto, using(crate::proofs::InPlace::bool_answered))]
-pub(crate) fn known_truth(registers: &Slots, world: &World, arguments: &[Argument]) -> Option<bool>
+pub(crate) fn register_truth(
+    registers: &Slots,
+    world: &World,
+    arguments: &[Argument],
+) -> Option<bool>
     ensures { IfSome result (λ t. answered world.now op.Truth (meaning.values registers.now arguments.now) ≡ Some (given world.now.heap (value.Bool t))) }
 {
     let [Argument::Value(Operand::Register(register))] = arguments else {
         return None;
     };
-    bool_in(registers, *register)
+    truth_in(registers, *register)
+}
+
+/// The truth value of an argument that is no text and no object.
+#[inline]
+#[tactic(auto, using(crate::proofs::InPlace::truth_answered))]
+pub(crate) fn truth_value(registers: &Slots, world: &World, arguments: &[Argument]) -> Option<bool>
+    ensures { IfSome result (λ t. answered world.now op.Truth (meaning.values registers.now arguments.now) ≡ Some (given world.now.heap (value.Bool t))) }
+{
+    let [Argument::Value(operand)] = arguments else {
+        return None;
+    };
+    truth_at(registers, operand)
 }
 
 // The other bool.
