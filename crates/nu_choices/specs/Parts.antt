@@ -1,17 +1,16 @@
 -- Parts of expressions, which write temporaries in front of those that are drawn for the whole.
 use Rattle.std.specs.Prelude.{ℕ}
 use Rattle.node_tree.specs.declared.node.Operand.{Operand}
-use Rattle.node_tree.specs.declared.node.Operand.TheVariants as operand
 use Rattle.node_tree.specs.Blocks as tree
 use Rattle.py_meaning.specs.Syntax as syntax
 use Rattle.nu_carries.specs.Frames.{Homes, IsOff}
 use Rattle.nu_carries.specs.Carries.{Carrier, CarriesExpression}
 use Rattle.nu_carries.specs.Laws.{alone, Within}
+use Rattle.nu_homes.specs.Names.{puts}
 
 -- what an operand holds goes to a temporary
 abbrev pub moved : ℕ → Operand → tree.Block
-moved to (operand.Temp from) = alone (tree.Copy to from)
-moved to (operand.Const c) = alone (tree.Constant to c)
+moved to o = alone (puts to o)
 
 -- a part, and its value goes to a temporary
 abbrev pub into : ℕ → Carrier → tree.Block
