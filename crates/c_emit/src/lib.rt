@@ -8,8 +8,6 @@ mod pieces;
 mod program;
 mod script;
 mod statements;
-#[cfg(test)]
-mod tests;
 
 ghost use Rattle.c_emit.specs.Laws.{ProgramsDoTheSame};
 

@@ -21,7 +21,8 @@ use Rattle.op_rules.specs.declared.op.Op.TheVariants as op
 use Rattle.op_rules.specs.Numbers.{int_op, unary_op, computed_end}
 use Rattle.op_rules.specs.Comparisons.{same_end, not_row, truth_row, object_truth}
 use Rattle.op_rules.specs.IntRows.{of_one, of_two, on_number, on_numbers, bool_op, bool_or, number_pair, number_order, number_one, int_row}
-use Rattle.op_rules.specs.TextRows.{sized, size_limit, characters, repeated_by, copy_count, copies, text_add, text_mul, text_mod, text_pair, text_operation, on_texts, text_order, text_row}
+use Rattle.nu_text.specs.Characters.{characters}
+use Rattle.op_rules.specs.TextRows.{sized, size_limit, repeated_by, copy_count, copies, text_add, text_mul, text_mod, text_pair, text_operation, on_texts, text_order, text_row}
 use Rattle.op_rules.specs.CallRows.{text_of, printed, print_row, call_object, call_value, call_row}
 use Rattle.op_rules.specs.Table.{family_row, family_of, by_family}
 use Rattle.op_rules.specs.declared.world.World.{World}

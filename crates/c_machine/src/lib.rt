@@ -17,8 +17,6 @@ mod placing;
 mod quick;
 mod starting;
 mod step;
-#[cfg(test)]
-mod tests;
 mod traceback;
 mod values;
 

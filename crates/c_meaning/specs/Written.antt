@@ -22,7 +22,7 @@ use Rattle.c_meaning.specs.declared.program.Line.{Line}
 use Rattle.c_meaning.specs.declared.program.Line.TheVariants as line
 use Rattle.c_meaning.specs.declared.program.Function as function
 use Rattle.c_meaning.specs.declared.program.CProgram as program
-use Rattle.c_meaning.specs.declared.names.TheConstants.{BUILTIN_NAMES}
+use Rattle.nu_text.specs.Names.{is_among, built_in_names}
 use Rattle.c_meaning.specs.Text.{program_text}
 
 -- a whole number from -2^127 to 2^127 - 1
@@ -50,18 +50,11 @@ abbrev pub IsArgument : ℕ → Argument → Type 0
 IsArgument registers (argument.Value a) = IsOperand registers a
 IsArgument registers (argument.Name name) = IsUtf8 name
 
--- the built-in names of scripts
-unfoldable pub builtin_names : List (List ℕ)
-builtin_names = map (λ entry. entry.now) BUILTIN_NAMES
-
-abbrev pub is_among : List (List ℕ) → List ℕ → Bool
-is_among table name = list_any (λ entry. bytes_eq entry name) table
-
 -- whether an argument is of the kind that an operation takes at its place: a name, or a value
 abbrev pub takes : ArgumentKind → Argument → Bool
 takes kind.Name (argument.Name name) = true
 takes kind.Name (argument.Value a) = false
-takes kind.BuiltinName (argument.Name name) = is_among builtin_names name
+takes kind.BuiltinName (argument.Name name) = is_among built_in_names name
 takes kind.BuiltinName (argument.Value a) = false
 takes other (argument.Value a) = true
 takes other (argument.Name name) = false

@@ -5,14 +5,12 @@
 #![tactic(auto)]
 
 mod code;
-mod names;
 mod program;
 mod state;
 
 ghost use Rattle.c_meaning.specs.Laws.{RunsAreMonotone};
 
 pub use code::{Body, Code, Placed};
-pub use names::BUILTIN_NAMES;
 pub use nu_run::End as CEnd;
 pub use program::{Argument, CProgram, Function, Line, Operand, Statement, Stored};
 pub use state::{Activation, Kept, Purpose, Told, Uncaught};

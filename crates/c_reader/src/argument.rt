@@ -4,13 +4,13 @@ ghost use Rattle.std.specs.Prelude.{◌≡◌, ◌++◌, ℕ, List, [], IfOk, If
 ghost use Rattle.nu_text.specs.Decimals.{starts_digit};
 ghost use Rattle.op_rules.specs.Signature.{arguments, further};
 ghost use Rattle.c_meaning.specs.declared.program.Argument.{Argument};
-ghost use Rattle.c_meaning.specs.Written.{builtin_names, is_among, takes, all_taken};
+ghost use Rattle.c_meaning.specs.Written.{takes, all_taken};
 ghost use Rattle.c_reader.specs.Statements.{BareArgumentStands, ArgumentStands, ArgumentsStand};
 
 use crate::number::{after, begins_with_digit};
 use crate::operand::operand;
 use crate::spelling::string;
-use c_meaning::{Argument, BUILTIN_NAMES};
+use c_meaning::Argument;
 use op_rules::{ArgumentKind, Op};
 use sqlite_items::Items;
 use std::alloc::{AllocError, Global};
@@ -86,30 +86,11 @@ fn takes(kind: ArgumentKind, argument: &Argument) -> bool
     match (kind, argument) {
         (ArgumentKind::Name, Argument::Name(_)) => true,
         (ArgumentKind::Name, Argument::Value(_)) => false,
-        (ArgumentKind::BuiltinName, Argument::Name(name)) => is_builtin_name(name.as_str()),
+        (ArgumentKind::BuiltinName, Argument::Name(name)) => is_built_in_name(name.as_str()),
         (ArgumentKind::BuiltinName, Argument::Value(_)) => false,
         (_, Argument::Value(_)) => true,
         (_, Argument::Name(_)) => false,
     }
-}
-
-// Whether the table has the name.
-fn is_among(table: &[&str], name: &str) -> bool
-    ensures { result ≡ is_among (map (λ entry. entry.now) table.now) name.now }
-{
-    for entry in table {
-        if *entry == name {
-            return true;
-        }
-    }
-    false
-}
-
-#[tactic(auto, unfolding(c_meaning::specs::Written::builtin_names))]
-fn is_builtin_name(name: &str) -> bool
-    ensures { result ≡ is_among builtin_names name.now }
-{
-    is_among(&BUILTIN_NAMES, name)
 }
 
 // Whether the arguments behind the first places are all of this kind; without a kind there are none.

@@ -15,8 +15,6 @@ mod reader;
 mod spelling;
 mod statement;
 mod stored;
-#[cfg(test)]
-mod tests;
 
 pub use end::ReadEnd;
 pub use laws::{one_program, one_text};

@@ -5,8 +5,6 @@ mod copies;
 mod lowering;
 mod registers;
 mod script;
-#[cfg(test)]
-mod tests;
 
 ghost use Rattle.flow_lower.specs.Laws.{LoweredDoesTheSame};
 

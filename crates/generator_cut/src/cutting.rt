@@ -66,23 +66,3 @@ fn cut_function(function: FlatFunction) -> CutFunction
         body: function.body,
     }
 }
-
-#[cfg(test)]
-mod tests {
-    use super::*;
-    use nu_text::RcStr;
-    use std::test::Fail;
-
-    #[test]
-    fn a_script_without_functions_is_cut(rt: HostRuntime) -> Result<(), Fail> {
-        let script = FlatScript {
-            name: RcStr::from_str(rt.alloc(), "f.py")?,
-            scripts: 7,
-            functions: Items::new(rt.alloc()),
-        };
-        let done = cut(rt.alloc(), script)?;
-        assert_eq!(rt; done.scripts, 7);
-        assert_eq!(rt; done.functions.len(), 0);
-        Ok(())
-    }
-}

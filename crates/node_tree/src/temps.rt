@@ -46,18 +46,3 @@ impl Temps {
         Ok(number)
     }
 }
-
-#[cfg(test)]
-mod tests {
-    use super::*;
-    use std::test::Fail;
-
-    #[test]
-    fn numbers_come_once(rt: HostRuntime) -> Result<(), Fail> {
-        let mut temps = Temps::new(rt.alloc(), 5);
-        for want in 5..8 {
-            assert_eq!(rt; temps.fresh()?, want);
-        }
-        Ok(())
-    }
-}

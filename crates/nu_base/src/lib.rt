@@ -7,8 +7,6 @@ mod in_memory;
 mod schedule;
 mod stored;
 mod sure;
-#[cfg(test)]
-mod tests;
 mod traits;
 
 pub use ending::{Failed, FetchTrouble, Fetched, Memory, PutTrouble};

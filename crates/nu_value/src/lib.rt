@@ -13,8 +13,6 @@ mod pairs;
 mod ranges;
 mod same;
 mod slots;
-#[cfg(test)]
-mod tests;
 mod value;
 
 pub use entries::{Entries, Entry};

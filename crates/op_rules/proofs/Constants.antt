@@ -15,7 +15,8 @@ use Rattle.op_rules.specs.Fits.{is_in}
 use Rattle.op_rules.specs.Foldable.{folded, given, value_of}
 use Rattle.op_rules.specs.Folding.{const_eq, order_folded, pair_folded, two_folded, one_folded, folded_by}
 use Rattle.op_rules.specs.Table.{by_family}
-use Rattle.op_rules.specs.TextRows.{sized, size_limit, characters, copies, copy_count}
+use Rattle.nu_text.specs.Characters.{characters}
+use Rattle.op_rules.specs.TextRows.{sized, size_limit, copies, copy_count}
 
 in_const : (a : Const) → is_in 0 (value_of a) ≡ true
 in_const const.None = refl

@@ -1,6 +1,7 @@
 -- The rows on texts (library reference, "Common Sequence Operations" and "Text Sequence Type").
 use Rattle.std.specs.Prelude.{ℕ, zero, suc, ◌+◌, ◌*◌, ℤ, pos, negsuc, List, [], ◌∷◌, ◌++◌, Option, Some, None, ◌||◌, if◌then◌else◌, nat_lt, nat_le}
 use Rattle.nu_run.specs.declared.StopKind.TheVariants as stop
+use Rattle.nu_text.specs.Characters.{characters}
 use Rattle.nu_value.specs.declared.value.Value.{Value}
 use Rattle.nu_value.specs.declared.value.Value.TheVariants as value
 use Rattle.nu_value.specs.declared.object.Object.{Object}
@@ -13,11 +14,6 @@ use Rattle.op_rules.specs.Kinds.{no_operand, no_operands, no_order}
 use Rattle.op_rules.specs.Signs.{sign_of}
 use Rattle.op_rules.specs.Comparisons.{give_bool, holds, text_cmp}
 use Rattle.op_rules.specs.IntRows.{of_one, of_two}
-
--- how many characters a text in UTF-8 has: each has one byte outside 128 to 191
-abbrev pub characters : List ℕ → ℕ
-characters [] = 0
-characters (byte ∷ bytes) = (if nat_lt byte 128 || nat_le 192 byte then 1 else 0) + characters bytes
 
 -- the most items of a text, list or tuple
 abbrev pub size_limit : ℕ

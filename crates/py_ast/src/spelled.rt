@@ -271,18 +271,3 @@ impl Sign {
         }
     }
 }
-
-#[cfg(test)]
-mod tests {
-    use super::*;
-    use crate::Expr;
-    use std::test::Fail;
-
-    #[test]
-    fn spells(rt: HostRuntime) -> Result<(), Fail> {
-        assert_eq!(rt; Word::Nonlocal.spelling(), b"nonlocal".as_slice());
-        assert_eq!(rt; Sign::RightShiftEqual.spelling(), b">>=".as_slice());
-        assert_eq!(rt; Expr::Number(4, 1).line(), 4);
-        Ok(())
-    }
-}

@@ -14,8 +14,6 @@ mod order;
 mod parts;
 mod productions;
 mod role;
-#[cfg(test)]
-mod tests;
 
 pub use cursor::Cursor;
 pub use productions::{

@@ -167,6 +167,7 @@ pub fn expression(alloc: Global, tokens: &[Token], at: usize) -> Result<(Expr, u
             if follows_expression(cursor.mark()) {
                 Ok((found.tree, tokens.len() - cursor.len()))
             } else {
+                drop(found);
                 Err(cursor.refuse())
             }
         }
@@ -190,6 +191,7 @@ pub fn exprs(alloc: Global, tokens: &[Token], at: usize) -> Result<(Expr, usize)
             if follows_exprs(cursor.mark()) {
                 Ok((found.tree, tokens.len() - cursor.len()))
             } else {
+                drop(found);
                 Err(cursor.refuse())
             }
         }
@@ -212,6 +214,7 @@ pub fn targets(alloc: Global, tokens: &[Token], at: usize) -> Result<(Target, us
             if follows_targets(cursor.mark()) {
                 Ok((found.tree, tokens.len() - cursor.len()))
             } else {
+                drop(found);
                 Err(cursor.refuse())
             }
         }
@@ -234,6 +237,7 @@ pub fn target(alloc: Global, tokens: &[Token], at: usize) -> Result<(Target, usi
             if follows_target(cursor.mark()) {
                 Ok((found.tree, tokens.len() - cursor.len()))
             } else {
+                drop(found);
                 Err(cursor.refuse())
             }
         }

@@ -29,8 +29,6 @@ mod runs;
 mod script;
 mod signs;
 mod strings;
-#[cfg(test)]
-mod tests;
 mod words;
 
 pub use laws::{every_character_stands, longest_piece, one_answer};

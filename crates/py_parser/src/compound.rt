@@ -7,7 +7,7 @@ ghost use Rattle.py_statements.specs.Parse as spec;
 ghost use Rattle.py_parser.specs.Nests.{Nests};
 
 use crate::names::as_name;
-use crate::nodes::{boxed, made, nothing, only, with_part};
+use crate::nodes::{both, boxed, made, nothing, only, with_part};
 use crate::parts::{base_class, decorators, managers};
 use py_ast::{Branch, Expr, Handler, Sign, Stmt, Target, Word};
 use py_expr::{Cursor, expression_to, exprs_to, params_to, targets_to};
@@ -41,7 +41,8 @@ impl<F: Fn(Global, &mut Cursor<'_>, usize, u32) -> Result<Found<Items<Stmt>>, Pa
     {
         let line = tokens.take();
         let x = expression_to(self.alloc, tokens, depth)?;
-        let body = self.again(tokens, depth)?;
+        let body = self.again(tokens, depth);
+        let (x, body) = both(x, body)?;
         Ok(Found {
             tree: Branch {
                 line,
@@ -120,7 +121,8 @@ impl<F: Fn(Global, &mut Cursor<'_>, usize, u32) -> Result<Found<Items<Stmt>>, Pa
         ensures { Reads (spec.while_statement (spec.parse self.now.fuel) depth tokens.old) result tokens.new }
     {
         let first = self.branch(tokens, depth.saturating_sub(1))?;
-        let other = self.worded(tokens, Word::Else, depth.saturating_sub(1))?;
+        let other = self.worded(tokens, Word::Else, depth.saturating_sub(1));
+        let (first, other) = both(first, other)?;
         let height = first.height.max(other.height);
         let Branch { line, test, body } = first.tree;
         made(
@@ -208,8 +210,10 @@ impl<F: Fn(Global, &mut Cursor<'_>, usize, u32) -> Result<Found<Items<Stmt>>, Pa
         ensures { Reads (spec.class_handler (spec.parse self.now.fuel) line depth tokens.old) result tokens.new }
     {
         let x = expression_to(self.alloc, tokens, depth)?;
-        let name = as_name(tokens)?;
-        let body = self.again(tokens, depth)?;
+        let name = as_name(tokens);
+        let head = both(x, name)?;
+        let body = self.again(tokens, depth);
+        let ((x, name), body) = both(head, body)?;
         Ok(Found {
             tree: Handler {
                 line,
@@ -368,7 +372,8 @@ impl<F: Fn(Global, &mut Cursor<'_>, usize, u32) -> Result<Found<Items<Stmt>>, Pa
         let line = tokens.take();
         let name = tokens.name()?;
         let base = base_class(self.alloc, tokens, depth.saturating_sub(1))?;
-        let body = self.again(tokens, depth.saturating_sub(1))?;
+        let body = self.again(tokens, depth.saturating_sub(1));
+        let (base, body) = both(base, body)?;
         let height = decorators.height.max(base.height.max(body.height));
         let tree = Stmt::Class(line, decorators.tree, name, base.tree, body.tree);
         made(tokens, line, depth, height, tree)

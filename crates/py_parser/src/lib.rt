@@ -12,8 +12,6 @@ mod nodes;
 mod parser;
 mod parts;
 mod simple;
-#[cfg(test)]
-mod tests;
 mod words;
 
 pub use parser::parse;

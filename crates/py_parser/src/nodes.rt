@@ -5,6 +5,7 @@ ghost use Rattle.py_grammar.specs.Parse as grammar;
 ghost use Rattle.py_grammar.specs.Parse.{Reads};
 ghost use Rattle.py_statements.specs.Parse as spec;
 ghost use Rattle.py_statements.specs.Words as word;
+ghost use Rattle.py_parser.specs.Both.{Both};
 
 use crate::words::{is_indent, is_newline};
 use py_ast::Stmt;
@@ -115,4 +116,15 @@ pub fn boxed<T: Drop>(alloc: Global, part: Found<T>) -> Result<Found<Boxed<T>>, 
         tree: Boxed::new(alloc, part.tree)?,
         height: part.height,
     })
+}
+
+/// What was found before, beside what is found now; it is let go where nothing is found now. A type parameter is dropped by one
+/// call, where a `?` would write out the whole `match` of an expression's drop.
+pub fn both<A: Drop, B>(first: A, second: Result<B, ParseEnd>) -> Result<(A, B), ParseEnd>
+    ensures { Both first second result }
+{
+    match second {
+        Ok(second) => Ok((first, second)),
+        Err(end) => Err(end),
+    }
 }

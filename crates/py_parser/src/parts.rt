@@ -4,7 +4,7 @@ ghost use Rattle.std.specs.Prelude.{◌≡◌};
 ghost use Rattle.py_grammar.specs.Parse.{Reads};
 ghost use Rattle.py_statements.specs.Parse as spec;
 
-use crate::nodes::{newline, nothing, with_part};
+use crate::nodes::{both, newline, nothing, with_part};
 use crate::words::is_form;
 use py_ast::{Expr, Manager, Sign, Word};
 use py_expr::{
@@ -112,7 +112,8 @@ fn as_target(
         });
     }
     tokens.take();
-    let y = target_to(alloc, tokens, depth)?;
+    let y = target_to(alloc, tokens, depth);
+    let (x, y) = both(x, y)?;
     Ok(Found {
         tree: Manager {
             value: x.tree,
@@ -132,6 +133,7 @@ fn manager(alloc: Global, tokens: &mut Cursor<'_>, depth: u32) -> Result<Found<M
     let x = expression_to(alloc, tokens, depth)?;
     let used = before.len().saturating_sub(tokens.len());
     if is_form(&x.tree, &before[..used]) {
+        drop(x);
         return Err(ParseEnd::Grammar { line });
     }
     as_target(alloc, tokens, depth, x)
@@ -173,8 +175,8 @@ pub fn decorators(
         }
         tokens.take();
         let x = expression_to(alloc, tokens, depth)?;
-        newline(tokens)?;
         list = with_part(list, x)?;
+        newline(tokens)?;
     }
     Err(tokens.refuse())
 }
@@ -196,6 +198,7 @@ pub fn base_class(
     }
     tokens.take();
     let x = maybe_expression(alloc, tokens, depth)?;
-    tokens.expect(Sign::RightParen)?;
+    let closed = tokens.expect(Sign::RightParen);
+    let (x, _) = both(x, closed)?;
     Ok(x)
 }

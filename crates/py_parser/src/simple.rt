@@ -5,7 +5,7 @@ ghost use Rattle.py_grammar.specs.Parse.{Reads};
 ghost use Rattle.py_statements.specs.Parse as spec;
 
 use crate::names::names;
-use crate::nodes::{made, only, with_part};
+use crate::nodes::{both, made, only, with_part};
 use crate::parts::{maybe_expression, maybe_exprs, message, right};
 use crate::words::{augmented, is_newline};
 use py_ast::{Expr, Sign, Stmt, Word};
@@ -95,10 +95,12 @@ fn behind_row(
     match augmented(tokens.mark()) {
         Some(op) => {
             if !is_alone {
+                drop(x);
                 return Err(tokens.refuse());
             }
             tokens.take();
-            let y = right(alloc, tokens, depth.saturating_sub(1))?;
+            let y = right(alloc, tokens, depth.saturating_sub(1));
+            let (x, y) = both(x, y)?;
             let height = x.height.max(y.height);
             made(
                 tokens,
@@ -188,7 +190,8 @@ fn assert_statement(
 {
     let line = tokens.take();
     let x = expression_to(alloc, tokens, depth.saturating_sub(1))?;
-    let y = message(alloc, tokens, depth.saturating_sub(1))?;
+    let y = message(alloc, tokens, depth.saturating_sub(1));
+    let (x, y) = both(x, y)?;
     let height = x.height.max(y.height);
     made(
         tokens,

@@ -11,8 +11,6 @@ mod scopes;
 mod seen;
 mod survey;
 mod surveyor;
-#[cfg(test)]
-mod tests;
 
 use crate::scopes::resolved;
 pub use end::ScopeEnd;

@@ -11,8 +11,6 @@ mod ending;
 mod expressions;
 mod scripts;
 mod statements;
-#[cfg(test)]
-mod tests;
 
 pub use ending::ReformEnd;
 pub use scripts::reform;

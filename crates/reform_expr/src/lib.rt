@@ -9,8 +9,6 @@ ghost use Rattle.reform_expr.specs.Parts.{ConsecutiveRangesLieApart};
 mod home;
 mod leaves;
 mod operations;
-#[cfg(test)]
-mod tests;
 
 pub use home::Home;
 pub use leaves::{constant, name};

@@ -5,8 +5,6 @@
 
 mod branches;
 mod loops;
-#[cfg(test)]
-mod tests;
 
 pub use branches::branch;
 pub use loops::while_loop;

@@ -9,8 +9,6 @@ ghost use Rattle.reform_unpack.specs.Laws.{CarriesAssignments};
 mod assigned;
 mod augmented;
 mod place;
-#[cfg(test)]
-mod tests;
 
 pub use assigned::assign;
 pub use augmented::augment;

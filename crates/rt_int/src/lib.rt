@@ -4,8 +4,6 @@
 mod apply;
 mod laws;
 mod rows;
-#[cfg(test)]
-mod tests;
 
 pub use apply::apply_int;
 pub use laws::{division_is_floored, integers_are_ordered};

@@ -5,7 +5,7 @@ use Rattle.std.proofs.lemmas.Bool.Decides.{nat_tests}
 use Rattle.std.proofs.Math.Nat.{mod-lt}
 use Rattle.std.specs.Char.{encode_utf8}
 use Rattle.std.specs.Str.{encode_utf8_all}
-use Rattle.op_rules.specs.TextRows.{characters}
+use Rattle.nu_text.specs.Characters.{characters}
 
 abbrev pub next : ℕ → ℕ
 next bits = 128 + bits % 64

@@ -2,7 +2,7 @@
 use Rattle.std.specs.Prelude.{◌≡◌, ℕ, List, length, encode_utf8_all}
 use Rattle.std.specs.Ordering.{nat_cmp}
 use Rattle.std.specs.Cmp.Lexicographic.{slice_cmp}
-use Rattle.op_rules.specs.TextRows.{characters}
+use Rattle.nu_text.specs.Characters.{characters}
 use Rattle.op_rules.specs.Comparisons.{text_cmp}
 
 -- a text has as many characters as were written in UTF-8, and texts are ordered as their characters are

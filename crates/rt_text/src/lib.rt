@@ -4,8 +4,6 @@
 mod apply;
 mod laws;
 mod rows;
-#[cfg(test)]
-mod tests;
 
 pub use apply::apply_text;
 pub use laws::texts_are_characters;

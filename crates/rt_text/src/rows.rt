@@ -6,10 +6,11 @@ ghost use Rattle.op_rules.specs.declared.end.OpEnd.TheVariants as opend;
 ghost use Rattle.op_rules.specs.Comparisons as comparisons;
 ghost use Rattle.op_rules.specs.Kinds as kinds;
 ghost use Rattle.op_rules.specs.Signs as signs;
+ghost use Rattle.nu_text.specs.Characters as lengths;
 ghost use Rattle.op_rules.specs.TextRows as spec;
 
 use nu_run::StopKind;
-use nu_text::RcStr;
+use nu_text::{RcStr, characters};
 use nu_value::{Heap, Value};
 use op_rules::{Op, OpEnd, no_operands, no_order};
 use std::alloc::{AllocError, Global};
@@ -17,19 +18,6 @@ use std::cmp::Ordering;
 
 /// The most characters of a text.
 const SIZE_LIMIT: u128 = 16_777_216;
-
-/// How many characters a text has.
-fn characters(text: &[u8]) -> usize
-    ensures { result ≡ spec.characters text.now }
-{
-    let mut count: usize = 0;
-    for byte in text {
-        if *byte < 128 || 192 <= *byte {
-            count += 1;
-        }
-    }
-    count
-}
 
 fn give_text(alloc: Global, text: &str) -> Result<OpEnd, AllocError>
     ensures { IfOk result (λ e. e ≡ opend.Give (value.Str text.now)) }
@@ -39,7 +27,7 @@ fn give_text(alloc: Global, text: &str) -> Result<OpEnd, AllocError>
 
 /// Two texts, one behind the other.
 fn joined(alloc: Global, front: &str, back: &str) -> Result<OpEnd, AllocError>
-    ensures { IfOk result (λ e. e ≡ spec.sized (spec.characters front.now + spec.characters back.now) (opend.Give (value.Str (front.now ++ back.now)))) }
+    ensures { IfOk result (λ e. e ≡ spec.sized (lengths.characters front.now + lengths.characters back.now) (opend.Give (value.Str (front.now ++ back.now)))) }
 {
     let count = characters(front.as_bytes()) as u128 + characters(back.as_bytes()) as u128;
     if SIZE_LIMIT < count {

@@ -6,8 +6,6 @@ mod calls;
 mod finishing;
 mod names;
 mod table;
-#[cfg(test)]
-mod tests;
 
 pub use arguments::fits;
 pub use finishing::finish;
