@@ -1,6 +1,6 @@
 //! Arguments of operations.
 
-ghost use Rattle.std.specs.Prelude.{◌≡◌, ◌++◌, ℕ, List, [], IfOk, IfSome, IfNone, false, codes, map};
+ghost use Rattle.std.specs.Prelude.{◌≡◌, ◌++◌, ℕ, List, [], IfOk, IfSome, IfNone, false, codes};
 ghost use Rattle.nu_text.specs.Decimals.{starts_digit};
 ghost use Rattle.op_rules.specs.Signature.{arguments, further};
 ghost use Rattle.c_meaning.specs.declared.program.Argument.{Argument};
@@ -11,6 +11,7 @@ use crate::number::{after, begins_with_digit};
 use crate::operand::operand;
 use crate::spelling::string;
 use c_meaning::Argument;
+use nu_text::is_built_in_name;
 use op_rules::{ArgumentKind, Op};
 use sqlite_items::Items;
 use std::alloc::{AllocError, Global};
