@@ -34,7 +34,7 @@ use Rattle.c_meaning.specs.declared.state.Told.TheVariants as told
 use Rattle.c_meaning.specs.declared.state.Uncaught.{Uncaught}
 use Rattle.c_meaning.specs.Code.{code_of}
 use Rattle.c_meaning.specs.State.{State, printed_in, keeping, in_scene, printing, jumps}
-use Rattle.c_meaning.specs.Step.{held, used, values, kept_for, told_of, Site, site_in, placed_at, stores, branches, takes, pends, again, loads, saves_in, saves, switches, raised, settles, settles_at, begins_body, enters, begins_generator, wakes, begins, began, operates, back, report_begins, report_began, asks_function, asks_report, leaves, uncaught, module_begins, module_over, module_ended, report_ended, ended, body_ended, returns, fails, pauses_with, pauses, receives, stored_step, statement_step, placed_step, step}
+use Rattle.c_meaning.specs.Step.{held, used, values, number_of, told_of, Site, site_in, placed_at, stores, branches, takes, pends, again, saves, switches, raised, settles, settles_at, begins_body, enters, begins_generator, wakes, begins, began, operates, back, report_begins, report_began, asks_function, asks_report, leaves, uncaught, module_begins, module_over, module_ended, report_ended, ended, body_ended, returns, fails, kept_of, pauses, receives, stored_step, statement_step, placed_step, step}
 use Rattle.c_meaning.specs.Run.{start, c_run}
 
 module _ (base : List ℕ) where
@@ -81,23 +81,13 @@ module _ (base : List ℕ) where
   again_grows s goal (Some (value.Str text)) p = p
   again_grows s goal (Some (value.Obj e)) p = pends_grows s goal e (slice_get s.around.world.heap e) p
 
-  loads_grows : (s : State) (to slot : ℕ) (k : Option Kept) → IsPrefix base s.printed → Grows (loads s to slot k)
-  loads_grows s to slot None p = p
-  loads_grows s to slot (Some k) p = stores_grows s to (option_flatten (slice_get k.slots slot)) p
+  saves_grows : (s : State) (slot : ℕ) (v : Option Value) → IsPrefix base s.printed → Grows (saves s slot v)
+  saves_grows s slot None p = p
+  saves_grows s slot (Some v) p = if_grows (nat_lt slot (length s.running.slots)) _ _ p p
 
-  saves_in_grows : (s : State) (g slot : ℕ) (v : Value) (k : Option Kept) → IsPrefix base s.printed → Grows (saves_in s g slot v k)
-  saves_in_grows s g slot v None p = p
-  saves_in_grows s g slot v (Some k) p = if_grows (nat_lt slot (length k.slots)) _ _ p p
-
-  saves_grows : (s : State) (slot : ℕ) (v : Option Value) (x : Purpose) → IsPrefix base s.printed → Grows (saves s slot v x)
-  saves_grows s slot None x p = p
-  saves_grows s slot (Some v) purpose.Module p = p
-  saves_grows s slot (Some v) (purpose.Call after) p = p
-  saves_grows s slot (Some v) (purpose.Resume g what closing) p = saves_in_grows s g slot v (kept_at s.around.kept g) p
-
-  switches_grows : (s : State) (cases : List (Option ℕ)) (k : Option Kept) → IsPrefix base s.printed → Grows (switches s cases k)
+  switches_grows : (s : State) (cases : List (Option ℕ)) (n : Option ℕ) → IsPrefix base s.printed → Grows (switches s cases n)
   switches_grows s cases None p = p
-  switches_grows s cases (Some k) p = jumps_grows s (option_flatten (slice_get cases k.number)) p
+  switches_grows s cases (Some n) p = jumps_grows s (option_flatten (slice_get cases n)) p
 
   module _ (rules : Rules) (c : Code) where
     settles_grows : (s : State) (x : Site) (r : Result) → IsPrefix base s.printed → Grows (settles rules c s x r)
@@ -110,28 +100,27 @@ module _ (base : List ℕ) where
     settles_at_grows s None r p = p
     settles_at_grows s (Some x) r p = settles_grows s x r p
 
-    begins_body_grows : (s : State) (number : ℕ) (given cells : List Value) (x : Purpose) (below : List Activation) (b : Option Body) → IsPrefix base s.printed → Grows (begins_body rules c s number given cells x below b)
-    begins_body_grows s number given cells x below None p = p
-    begins_body_grows s number given cells x below (Some body) p = p
+    begins_body_grows : (s : State) (number : ℕ) (given cells : List Value) (slots : List (Option Value)) (x : Purpose) (below : List Activation) (b : Option Body) → IsPrefix base s.printed → Grows (begins_body rules c s number given cells slots x below b)
+    begins_body_grows s number given cells slots x below None p = p
+    begins_body_grows s number given cells slots x below (Some body) p = p
 
     enters_grows : (s : State) (number : ℕ) (given cells : List Value) (x : Purpose) (below : List Activation) → IsPrefix base s.printed → Grows (enters rules c s number given cells x below)
-    enters_grows s number given cells x below p = begins_body_grows s number given cells x below (slice_get c.bodies number) p
+    enters_grows s number given cells x below p = begins_body_grows s number given cells [] x below (slice_get c.bodies number) p
 
     generator_grows : (s : State) (g number : ℕ) (given cells : List Value) (b : Option Body) → IsPrefix base s.printed → Grows (begins_generator rules c s g number given cells b)
     generator_grows s g number given cells None p = p
     generator_grows s g number given cells (Some body) p = p
 
-    wakes_grows : (s : State) (g : ℕ) (what : Told) (closing : Bool) (o : Option Object) (k : Option Kept) → IsPrefix base s.printed → Grows (wakes rules c s g what closing o k)
-    wakes_grows s g what closing None k p = p
-    wakes_grows s g what closing (Some (object.Generator number state given cells)) None p = p
-    wakes_grows s g what closing (Some (object.Generator number state given cells)) (Some k) p = enters_grows s number given cells _ _ p
-    wakes_grows s g what closing (Some other) k p = p
+    wakes_grows : (s : State) (g : ℕ) (what : Told) (closing : Bool) (k : Option Kept) → IsPrefix base s.printed → Grows (wakes rules c s g what closing k)
+    wakes_grows s g what closing None p = p
+    wakes_grows s g what closing (Some k) p =
+        begins_body_grows (keeping s g None) k.function k.arguments k.cells k.slots (purpose.Resume g what closing k.number) (s.running ∷ s.below) (slice_get c.bodies k.function) p
 
     begins_grows : (s : State) (x : Site) (b : Begun) → IsPrefix base s.printed → Grows (begins rules c s x b)
     begins_grows s x (Over text r) p = settles_grows (printing s text) x r (prefix_trans _ _ _ p (prefix_more s.printed text))
     begins_grows s x (Calls number given cells after) p = enters_grows s number given cells _ _ p
     begins_grows s x (Starts g number given cells) p = generator_grows s g number given cells (slice_get c.bodies number) p
-    begins_grows s x (Wakes g how closing) p = wakes_grows s g (told_of how) closing (slice_get s.around.world.heap g) (kept_at s.around.kept g) p
+    begins_grows s x (Wakes g how closing) p = wakes_grows s g (told_of how) closing (kept_at s.around.kept g) p
 
     operates_grows : (s : State) (x : Site) (o : Op) (args : Option (List Value)) → IsPrefix base s.printed → Grows (operates rules c s x o args)
     operates_grows s x o None p = p
@@ -192,9 +181,9 @@ module _ (base : List ℕ) where
     ended_grows s e purpose.Module below p = module_ended_grows s e p
     ended_grows s e (purpose.Call x) [] p = report_ended_grows s x e s.uncaught p
     ended_grows s e (purpose.Call x) (w ∷ below) p = back_grows s w below (call_ended rules x (outside rules c.scripts (scene s.around) w.function) e) p
-    ended_grows s e (purpose.Resume g what closing) [] p = p
-    ended_grows s e (purpose.Resume g what closing) (w ∷ below) p =
-        back_grows (keeping s g None) w below (generator_ended (outside rules c.scripts (scene s.around) w.function) g closing e) p
+    ended_grows s e (purpose.Resume g what closing number) [] p = p
+    ended_grows s e (purpose.Resume g what closing number) (w ∷ below) p =
+        back_grows s w below (generator_ended (outside rules c.scripts (scene s.around) w.function) g closing e) p
 
     body_ended_grows : (s : State) (e : End) → IsPrefix base s.printed → Grows (body_ended rules c s e)
     body_ended_grows s e p = ended_grows s e s.running.purpose s.below p
@@ -207,30 +196,26 @@ module _ (base : List ℕ) where
     fails_grows s None p = p
     fails_grows s (Some e) p = body_ended_grows s (Raised e) p
 
-    pauses_with_grows : (s : State) (number : ℕ) (v : Value) (g : ℕ) (closing : Bool) (w : Activation) (below : List Activation) (k : Option Kept) → IsPrefix base s.printed → Grows (pauses_with rules c s number v g closing w below k)
-    pauses_with_grows s number v g closing w below None p = p
-    pauses_with_grows s number v g closing w below (Some k) p =
-        back_grows (keeping s g (Some (record { slots = k.slots; number = number }))) w below (generator_paused (outside rules c.scripts (scene s.around) w.function) g closing v) p
-
     pauses_grows : (s : State) (number : ℕ) (v : Option Value) (x : Purpose) (below : List Activation) → IsPrefix base s.printed → Grows (pauses rules c s number v x below)
     pauses_grows s number None x below p = p
     pauses_grows s number (Some v) purpose.Module below p = p
     pauses_grows s number (Some v) (purpose.Call x) below p = p
-    pauses_grows s number (Some v) (purpose.Resume g what closing) [] p = p
-    pauses_grows s number (Some v) (purpose.Resume g what closing) (w ∷ below) p = pauses_with_grows s number v g closing w below (kept_at s.around.kept g) p
+    pauses_grows s number (Some v) (purpose.Resume g what closing old) [] p = p
+    pauses_grows s number (Some v) (purpose.Resume g what closing old) (w ∷ below) p =
+        back_grows (keeping s g (Some (kept_of rules c s.running number))) w below (generator_paused (outside rules c.scripts (scene s.around) w.function) g closing v) p
 
     receives_grows : (s : State) (x : Site) (y : Purpose) → IsPrefix base s.printed → Grows (receives rules c s x y)
     receives_grows s x purpose.Module p = p
     receives_grows s x (purpose.Call y) p = p
-    receives_grows s x (purpose.Resume g (told.Sent v) closing) p = p
-    receives_grows s x (purpose.Resume g (told.Thrown e) closing) p = settles_grows s x (Raises e) p
+    receives_grows s x (purpose.Resume g (told.Sent v) closing number) p = p
+    receives_grows s x (purpose.Resume g (told.Thrown e) closing number) p = settles_grows s x (Raises e) p
 
     stored_grows : (s : State) (to : ℕ) (what : Stored) (goal : Option ℕ) → IsPrefix base s.printed → Grows (stored_step rules c s to what goal)
     stored_grows s to (stored.Value a) goal p = stores_grows s to (held s.running.registers a) p
     stored_grows s to stored.Unset goal p = p
     stored_grows s to (stored.Parameter n) goal p = stores_grows s to (slice_get s.running.arguments n) p
     stored_grows s to (stored.Free n) goal p = stores_grows s to (slice_get s.running.cells n) p
-    stored_grows s to (stored.Load slot) goal p = loads_grows s to slot (kept_for s.around.kept s.running.purpose) p
+    stored_grows s to (stored.Load slot) goal p = stores_grows s to (option_flatten (slice_get s.running.slots slot)) p
     stored_grows s to stored.Caught goal p = takes_grows s to s.running.pending p
     stored_grows s to (stored.Sent at fail) goal p = receives_grows s (record { to = to; line = at; goal = goal }) s.running.purpose p
     stored_grows s to (stored.Operation o at arguments fail) goal p =
@@ -244,8 +229,8 @@ module _ (base : List ℕ) where
     statement_grows s (statement.Give a) goal cases p = returns_grows s (used (held s.running.registers a)) p
     statement_grows s statement.End goal cases p = body_ended_grows s (Return value.None) p
     statement_grows s statement.Fail goal cases p = fails_grows s s.running.pending p
-    statement_grows s (statement.Switch labels) goal cases p = switches_grows s cases (kept_for s.around.kept s.running.purpose) p
-    statement_grows s (statement.Save slot a) goal cases p = saves_grows s slot (held s.running.registers a) s.running.purpose p
+    statement_grows s (statement.Switch labels) goal cases p = switches_grows s cases (number_of s.running.purpose) p
+    statement_grows s (statement.Save slot a) goal cases p = saves_grows s slot (held s.running.registers a) p
     statement_grows s (statement.Pause number a) goal cases p = pauses_grows s number (used (held s.running.registers a)) s.running.purpose s.below p
 
     placed_grows : (s : State) (x : Option Placed) → IsPrefix base s.printed → Grows (placed_step rules c s x)

@@ -18,7 +18,7 @@ header_of f = f.header
 -- before any function has begun
 abbrev pub blank : Rules → List Header → List ℕ → State
 blank rules headers input = record {
-  running = record { function = 0; place = 0; registers = []; arguments = []; cells = []; pending = None; purpose = purpose.Module };
+  running = record { function = 0; place = 0; registers = []; slots = []; arguments = []; cells = []; pending = None; purpose = purpose.Module };
   below = [];
   around = record { world = rules.start headers; kept = []; input = input; frames = 0 };
   uncaught = None;

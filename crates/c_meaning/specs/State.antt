@@ -52,6 +52,7 @@ place_set a n = record {
   function = a.function;
   place = n;
   registers = a.registers;
+  slots = a.slots;
   arguments = a.arguments;
   cells = a.cells;
   pending = a.pending;
@@ -63,6 +64,7 @@ register_set a to v = record {
   function = a.function;
   place = a.place;
   registers = slice_set a.registers to (Some v);
+  slots = a.slots;
   arguments = a.arguments;
   cells = a.cells;
   pending = a.pending;
@@ -74,9 +76,22 @@ pending_set a e = record {
   function = a.function;
   place = a.place;
   registers = a.registers;
+  slots = a.slots;
   arguments = a.arguments;
   cells = a.cells;
   pending = e;
+  purpose = a.purpose;
+}
+
+abbrev pub slot_set : Activation → ℕ → Value → Activation
+slot_set a slot v = record {
+  function = a.function;
+  place = a.place;
+  registers = a.registers;
+  slots = slice_set a.slots slot (Some v);
+  arguments = a.arguments;
+  cells = a.cells;
+  pending = a.pending;
   purpose = a.purpose;
 }
 
@@ -96,18 +111,15 @@ abbrev pub jumps : State → Option ℕ → Stepped State
 jumps s None = undefined s
 jumps s (Some n) = More (with_running s (place_set s.running n))
 
--- a function that begins: no register has a value
-abbrev pub fresh : ℕ → Body → List Value → List Value → Purpose → Activation
-fresh number body arguments cells purpose = record {
+-- a function that begins, with these slots: no register has a value
+abbrev pub fresh : ℕ → Body → List Value → List Value → List (Option Value) → Purpose → Activation
+fresh number body arguments cells slots purpose = record {
   function = number;
   place = 0;
   registers = replicate body.registers None;
+  slots = slots;
   arguments = arguments;
   cells = cells;
   pending = None;
   purpose = purpose;
 }
-
--- what a generator keeps that begins: no slot has a value, and it resumes with 0
-abbrev pub fresh_kept : Body → Kept
-fresh_kept body = record { slots = replicate body.slots None; number = 0 }

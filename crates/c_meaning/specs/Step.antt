@@ -1,6 +1,6 @@
 -- What each statement does, in a program of this code and by these rules of operations. What a statement reads is an argument of
 -- what it does.
-use Rattle.std.specs.Prelude.{ℕ, zero, suc, List, [], ◌∷◌, ◌++◌, Option, Some, None, Bool, true, false, nat_lt, length, if◌then◌else◌, slice_get, slice_set}
+use Rattle.std.specs.Prelude.{ℕ, zero, suc, List, [], ◌∷◌, ◌++◌, Option, Some, None, Bool, true, false, nat_lt, length, if◌then◌else◌, slice_get, replicate}
 use Rattle.std.specs.Option.{option_flatten}
 use Rattle.nu_run.specs.declared.End as run_end
 use Rattle.nu_run.specs.declared.End.TheVariants as end
@@ -36,7 +36,7 @@ use Rattle.c_meaning.specs.declared.state.Purpose.TheVariants as purpose
 use Rattle.c_meaning.specs.declared.state.Told.{Told}
 use Rattle.c_meaning.specs.declared.state.Told.TheVariants as told
 use Rattle.c_meaning.specs.declared.state.Uncaught.{Uncaught}
-use Rattle.c_meaning.specs.State.{State, halted, undefined, with_around, in_scene, keeping, printing, put, pend, next, jumps, fresh, fresh_kept}
+use Rattle.c_meaning.specs.State.{State, halted, undefined, with_around, in_scene, keeping, printing, put, pend, next, jumps, fresh, slot_set, with_running}
 
 -- WHAT STATEMENTS READ
 
@@ -68,10 +68,10 @@ abbrev pub values : List (Option Value) → List Argument → Option (List Value
 values registers [] = Some []
 values registers (a ∷ arguments) = both (argument_value registers a) (values registers arguments)
 
--- what is kept of the generator that a function was begun for
-abbrev pub kept_for : List (Option Kept) → Purpose → Option Kept
-kept_for kept (purpose.Resume g what closing) = kept_at kept g
-kept_for kept other = None
+-- the resume number of a generator that goes on
+abbrev pub number_of : Purpose → Option ℕ
+number_of (purpose.Resume g what closing number) = Some number
+number_of other = None
 
 abbrev pub told_of : How → Told
 told_of (Send v) = told.Sent v
@@ -126,25 +126,17 @@ abbrev pub again : State → Option ℕ → Option Value → Stepped State
 again s goal (Some (value.Obj e)) = pends s goal e (slice_get s.around.world.heap e)
 again s goal other = undefined s
 
-abbrev pub loads : State → ℕ → ℕ → Option Kept → Stepped State
-loads s to slot None = undefined s
-loads s to slot (Some k) = stores s to (option_flatten (slice_get k.slots slot))
-
-abbrev pub slot_set : Kept → ℕ → Value → Kept
-slot_set k slot v = record { slots = slice_set k.slots slot (Some v); number = k.number }
-
-abbrev pub saves_in : State → ℕ → ℕ → Value → Option Kept → Stepped State
-saves_in s g slot v None = undefined s
-saves_in s g slot v (Some k) = if nat_lt slot (length k.slots) then next (keeping s g (Some (slot_set k slot v))) else undefined s
+abbrev pub saves_in : State → ℕ → Value → Stepped State
+saves_in s slot v = if nat_lt slot (length s.running.slots) then next (with_running s (slot_set s.running slot v)) else undefined s
 
 -- a slot of the generator gets a value
-abbrev pub saves : State → ℕ → Option Value → Purpose → Stepped State
-saves s slot (Some v) (purpose.Resume g what closing) = saves_in s g slot v (kept_at s.around.kept g)
-saves s slot v other = undefined s
+abbrev pub saves : State → ℕ → Option Value → Stepped State
+saves s slot None = undefined s
+saves s slot (Some v) = saves_in s slot v
 
-abbrev pub switches : State → List (Option ℕ) → Option Kept → Stepped State
+abbrev pub switches : State → List (Option ℕ) → Option ℕ → Stepped State
 switches s cases None = undefined s
-switches s cases (Some k) = jumps s (option_flatten (slice_get cases k.number))
+switches s cases (Some n) = jumps s (option_flatten (slice_get cases n))
 
 module _ (rules : Rules) (c : Code) where
   -- WHAT BEGINS, AND HOW IT ENDS
@@ -164,11 +156,11 @@ module _ (rules : Rules) (c : Code) where
   settles_at s None r = undefined s
   settles_at s (Some x) r = settles s x r
 
-  -- a function begins, with these below it
-  abbrev pub begins_body : State → ℕ → List Value → List Value → Purpose → List Activation → Option Body → Stepped State
-  begins_body s number given cells purpose below None = undefined s
-  begins_body s number given cells purpose below (Some body) = More (record {
-    running = fresh number body given cells purpose;
+  -- a function begins, with these slots, and these below it
+  abbrev pub begins_body : State → ℕ → List Value → List Value → List (Option Value) → Purpose → List Activation → Option Body → Stepped State
+  begins_body s number given cells slots purpose below None = undefined s
+  begins_body s number given cells slots purpose below (Some body) = More (record {
+    running = fresh number body given cells slots purpose;
     below = below;
     around = with_scene s.around (inside rules c.scripts (scene s.around) number);
     uncaught = s.uncaught;
@@ -176,25 +168,26 @@ module _ (rules : Rules) (c : Code) where
   })
 
   abbrev pub enters : State → ℕ → List Value → List Value → Purpose → List Activation → Stepped State
-  enters s number given cells purpose below = begins_body s number given cells purpose below (slice_get c.bodies number)
+  enters s number given cells purpose below = begins_body s number given cells [] purpose below (slice_get c.bodies number)
 
-  -- a generator begins
+  -- a generator begins: no slot has a value
   abbrev pub begins_generator : State → ℕ → ℕ → List Value → List Value → Option Body → Stepped State
   begins_generator s g number given cells None = undefined s
   begins_generator s g number given cells (Some body) =
-      begins_body (keeping s g (Some (fresh_kept body))) number given cells (purpose.Resume g (told.Sent value.None) false) (s.running ∷ s.below) (Some body)
+      begins_body s number given cells (replicate body.slots None) (purpose.Resume g (told.Sent value.None) false 0) (s.running ∷ s.below) (Some body)
 
   -- a paused generator goes on: its function begins again
-  abbrev pub wakes : State → ℕ → Told → Bool → Option Object → Option Kept → Stepped State
-  wakes s g what closing (Some (object.Generator number state given cells)) (Some k) = enters s number given cells (purpose.Resume g what closing) (s.running ∷ s.below)
-  wakes s g what closing other k = undefined s
+  abbrev pub wakes : State → ℕ → Told → Bool → Option Kept → Stepped State
+  wakes s g what closing None = undefined s
+  wakes s g what closing (Some k) =
+      begins_body (keeping s g None) k.function k.arguments k.cells k.slots (purpose.Resume g what closing k.number) (s.running ∷ s.below) (slice_get c.bodies k.function)
 
   -- what the running function's operation begins
   abbrev pub begins : State → Site → Begun → Stepped State
   begins s x (Over text r) = settles (printing s text) x r
   begins s x (Calls number given cells after) = enters s number given cells (purpose.Call after) (s.running ∷ s.below)
   begins s x (Starts g number given cells) = begins_generator s g number given cells (slice_get c.bodies number)
-  begins s x (Wakes g how closing) = wakes s g (told_of how) closing (slice_get s.around.world.heap g) (kept_at s.around.kept g)
+  begins s x (Wakes g how closing) = wakes s g (told_of how) closing (kept_at s.around.kept g)
 
   abbrev pub began : State → Site → Began → Stepped State
   began s x b = begins (in_scene s b.scene) x b.begun
@@ -274,9 +267,9 @@ module _ (rules : Rules) (c : Code) where
   ended s e purpose.Module below = module_ended s e
   ended s e (purpose.Call after) [] = report_ended s after e s.uncaught
   ended s e (purpose.Call after) (w ∷ below) = back s w below (call_ended rules after (outside rules c.scripts (scene s.around) w.function) e)
-  ended s e (purpose.Resume g what closing) [] = undefined s
-  ended s e (purpose.Resume g what closing) (w ∷ below) =
-      back (keeping s g None) w below (generator_ended (outside rules c.scripts (scene s.around) w.function) g closing e)
+  ended s e (purpose.Resume g what closing number) [] = undefined s
+  ended s e (purpose.Resume g what closing number) (w ∷ below) =
+      back s w below (generator_ended (outside rules c.scripts (scene s.around) w.function) g closing e)
 
   abbrev pub body_ended : State → End → Stepped State
   body_ended s e = ended s e s.running.purpose s.below
@@ -290,22 +283,22 @@ module _ (rules : Rules) (c : Code) where
   fails s None = undefined s
   fails s (Some e) = body_ended s (Raised e)
 
-  abbrev pub pauses_with : State → ℕ → Value → ℕ → Bool → Activation → List Activation → Option Kept → Stepped State
-  pauses_with s number v g closing w below None = undefined s
-  pauses_with s number v g closing w below (Some k) =
-      back (keeping s g (Some (record { slots = k.slots; number = number }))) w below (generator_paused (outside rules c.scripts (scene s.around) w.function) g closing v)
+  -- what a generator keeps that pauses
+  abbrev pub kept_of : Activation → ℕ → Kept
+  kept_of a number = record { function = a.function; arguments = a.arguments; cells = a.cells; slots = a.slots; number = number }
 
   -- a generator pauses with a value
   abbrev pub pauses : State → ℕ → Option Value → Purpose → List Activation → Stepped State
-  pauses s number (Some v) (purpose.Resume g what closing) (w ∷ below) = pauses_with s number v g closing w below (kept_at s.around.kept g)
+  pauses s number (Some v) (purpose.Resume g what closing old) (w ∷ below) =
+      back (keeping s g (Some (kept_of s.running number))) w below (generator_paused (outside rules c.scripts (scene s.around) w.function) g closing v)
   pauses s number v other below = undefined s
 
   -- STATEMENTS
 
   -- what was sent is the value, and what was thrown is raised
   abbrev pub receives : State → Site → Purpose → Stepped State
-  receives s x (purpose.Resume g (told.Sent v) closing) = settles s x (Gives v)
-  receives s x (purpose.Resume g (told.Thrown e) closing) = settles s x (Raises e)
+  receives s x (purpose.Resume g (told.Sent v) closing number) = settles s x (Gives v)
+  receives s x (purpose.Resume g (told.Thrown e) closing number) = settles s x (Raises e)
   receives s x other = undefined s
 
   abbrev pub stored_step : State → ℕ → Stored → Option ℕ → Stepped State
@@ -313,7 +306,7 @@ module _ (rules : Rules) (c : Code) where
   stored_step s to stored.Unset goal = next (put s to value.Unset)
   stored_step s to (stored.Parameter n) goal = stores s to (slice_get s.running.arguments n)
   stored_step s to (stored.Free n) goal = stores s to (slice_get s.running.cells n)
-  stored_step s to (stored.Load slot) goal = loads s to slot (kept_for s.around.kept s.running.purpose)
+  stored_step s to (stored.Load slot) goal = stores s to (option_flatten (slice_get s.running.slots slot))
   stored_step s to stored.Caught goal = takes s to s.running.pending
   stored_step s to (stored.Sent at fail) goal = receives s (record { to = to; line = at; goal = goal }) s.running.purpose
   stored_step s to (stored.Operation o at arguments fail) goal =
@@ -327,8 +320,8 @@ module _ (rules : Rules) (c : Code) where
   statement_step s (statement.Give a) goal cases = returns s (used (held s.running.registers a))
   statement_step s statement.End goal cases = body_ended s (Return value.None)
   statement_step s statement.Fail goal cases = fails s s.running.pending
-  statement_step s (statement.Switch labels) goal cases = switches s cases (kept_for s.around.kept s.running.purpose)
-  statement_step s (statement.Save slot a) goal cases = saves s slot (held s.running.registers a) s.running.purpose
+  statement_step s (statement.Switch labels) goal cases = switches s cases (number_of s.running.purpose)
+  statement_step s (statement.Save slot a) goal cases = saves s slot (held s.running.registers a)
   statement_step s (statement.Pause number a) goal cases = pauses s number (used (held s.running.registers a)) s.running.purpose s.below
 
   abbrev pub placed_step : State → Option Placed → Stepped State

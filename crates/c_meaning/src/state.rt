@@ -24,6 +24,8 @@ pub enum Purpose {
         generator: u64,
         told: Told,
         closing: bool,
+        /// The resume number of its last pause.
+        number: u64,
     },
 }
 
@@ -35,6 +37,8 @@ pub struct Activation {
     pub place: u64,
     /// Registers, of which some have no value.
     pub registers: Slots,
+    /// The slots of a generator; none elsewhere.
+    pub slots: Slots,
     pub arguments: Items,
     /// The free cells.
     pub cells: Items,
@@ -47,6 +51,9 @@ pub struct Activation {
 /// last pause.
 #[derive(Drop)]
 pub struct Kept {
+    pub function: u32,
+    pub arguments: Items,
+    pub cells: Items,
     pub slots: Slots,
     pub number: u64,
 }

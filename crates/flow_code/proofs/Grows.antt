@@ -47,8 +47,8 @@ module _ {L : Type 0} (m : Functions L) (base : List ℕ) where
   settles_grows w below a out (Stops kind) p = p
   settles_grows w below a out Unsaid p = p
 
-  enters_grows : (code : ℕ) (given cells : List Value) (stack : Stack L) (a : Surroundings (Waiting L)) (out : List ℕ) → IsPrefix base out → Grows (enters m code given cells stack a out)
-  enters_grows code given cells stack a out p = if_grows (m.has code) _ _ p p
+  enters_grows : (kind : Bool) (code : ℕ) (given cells : List Value) (stack : Stack L) (a : Surroundings (Waiting L)) (out : List ℕ) → IsPrefix base out → Grows (enters m kind code given cells stack a out)
+  enters_grows kind code given cells stack a out p = if_grows (m.has kind code) _ _ p p
 
   goes_on_grows : (w : Waiting L) (g : ℕ) (how : How) (closing : Bool) (below : Stack L) (a : Surroundings (Waiting L)) (out : List ℕ) (k : Option (Waiting L)) → IsPrefix base out → Grows (goes_on m w g how closing below a out k)
   goes_on_grows w g how closing below a out None p = p
@@ -56,8 +56,8 @@ module _ {L : Type 0} (m : Functions L) (base : List ℕ) where
 
   begins_grows : (w : Waiting L) (below : Stack L) (a : Surroundings (Waiting L)) (out : List ℕ) (b : Begun) → IsPrefix base out → Grows (begins m w below a out b)
   begins_grows w below a out (Over more r) p = settles_grows w below a (out ++ more) r (prefix_trans _ _ _ p (prefix_more out more))
-  begins_grows w below a out (Calls code given cells after) p = enters_grows code given cells _ a out p
-  begins_grows w below a out (Starts g code given cells) p = enters_grows code given cells _ a out p
+  begins_grows w below a out (Calls code given cells after) p = enters_grows false code given cells _ a out p
+  begins_grows w below a out (Starts g code given cells) p = enters_grows true code given cells _ a out p
   begins_grows w below a out (Wakes g how closing) p = goes_on_grows w g how closing below a out (kept_at a.kept g) p
 
   operates_grows : (w : Waiting L) (below : Stack L) (a : Surroundings (Waiting L)) (out : List ℕ) (o : Op) (args : List Value) → IsPrefix base out → Grows (operates m w below a out o args)
@@ -66,7 +66,7 @@ module _ {L : Type 0} (m : Functions L) (base : List ℕ) where
 
   report_begins_grows : (head : List ℕ) (c : ℕ) (a : Surroundings (Waiting L)) (out : List ℕ) (b : Begun) → IsPrefix base out → Grows (report_begins m head c a out b)
   report_begins_grows head c a out (Over more r) p = prefix_trans _ _ _ p (prefix_more out more)
-  report_begins_grows head c a out (Calls code given cells after) p = enters_grows code given cells _ a out p
+  report_begins_grows head c a out (Calls code given cells after) p = enters_grows false code given cells _ a out p
   report_begins_grows head c a out (Starts g code given cells) p = p
   report_begins_grows head c a out (Wakes g how closing) p = p
 
@@ -91,7 +91,7 @@ module _ {L : Type 0} (m : Functions L) (base : List ℕ) where
   uncaught_grows c e a out p = reports_grows (head_text m.file a.world.heap e) c e (with_scene a (with_frames (scene a) 0)) out (report_function a.world) p
 
   script_grows : (a : Surroundings (Waiting L)) (out : List ℕ) → IsPrefix base out → Grows (script_begins m a out)
-  script_grows a out p = enters_grows 0 [] [] (Base Script) (with_scene a (with_frames (scene a) 0)) out p
+  script_grows a out p = enters_grows false 0 [] [] (Base Script) (with_scene a (with_frames (scene a) 0)) out p
 
   ends_grows : (w : Waiting L) (below : Stack L) (a : Surroundings (Waiting L)) (out : List ℕ) (x : Ending) → IsPrefix base out → Grows (ends m w below a out x)
   ends_grows w below a out x p = settles_grows w below (with_scene a x.scene) out x.result p

@@ -69,14 +69,14 @@ pub record State (L : Type 0) : Type 0 where
 abbrev pub at : {L : Type 0} → ℕ → L → Frame → Option ℕ → Stack L → Surroundings (Waiting L) → List ℕ → State L
 at c l f q stack a out = record { code = c; place = l; frame = f; pending = q; stack = stack; around = a; out = out }
 
--- functions with places: the rules of operations, how many functions belong to the script, the headers, which functions
--- are there, where each begins, where its labels lead, and the statement at a place with the place behind it
+-- functions with places: the rules of operations, how many functions belong to the script, the headers, which generators
+-- are there, and which other functions, where each begins, where its labels lead, and the statement at a place with the place behind it
 pub record Functions (L : Type 0) : Type 0 where
   pub rules : Rules
   pub scripts : ℕ
   pub headers : List Header
   pub file : List ℕ
-  pub has : ℕ → Bool
+  pub has : Bool → ℕ → Bool
   pub start : ℕ → L
   pub label : ℕ → ℕ → L
   pub fetch : ℕ → L → Option (Statement × L)
@@ -136,9 +136,9 @@ module _ {L : Type 0} (m : Functions L) where
   ends w below a out x = settles w below (with_scene a x.scene) out x.result
 
   -- the function of this number begins, if it is there
-  abbrev pub enters : ℕ → List Value → List Value → Stack L → Surroundings (Waiting L) → List ℕ → Stepped (State L)
-  enters code given cells stack a out =
-      if m.has code then More (at code (m.start code) (fresh code given cells) None stack (with_scene a (inside m.rules m.scripts (scene a) code)) out) else undefined out
+  abbrev pub enters : Bool → ℕ → List Value → List Value → Stack L → Surroundings (Waiting L) → List ℕ → Stepped (State L)
+  enters kind code given cells stack a out =
+      if m.has kind code then More (at code (m.start code) (fresh code given cells) None stack (with_scene a (inside m.rules m.scripts (scene a) code)) out) else undefined out
 
   -- how a paused generator is told what was sent
   abbrev pub told : How → Result
@@ -154,8 +154,8 @@ module _ {L : Type 0} (m : Functions L) where
   -- what an operation begins
   abbrev pub begins : Waiting L → Stack L → Surroundings (Waiting L) → List ℕ → Begun → Stepped (State L)
   begins w below a out (Over printed r) = settles w below a (out ++ printed) r
-  begins w below a out (Calls code given cells after) = enters code given cells (Called w after below) a out
-  begins w below a out (Starts g code given cells) = enters code given cells (Resumed w g code false below) a out
+  begins w below a out (Calls code given cells after) = enters false code given cells (Called w after below) a out
+  begins w below a out (Starts g code given cells) = enters true code given cells (Resumed w g code false below) a out
   begins w below a out (Wakes g how closing) = goes_on w g how closing below a out (kept_at a.kept g)
 
   abbrev pub began : Waiting L → Stack L → Surroundings (Waiting L) → List ℕ → Began → Stepped (State L)
@@ -176,7 +176,7 @@ module _ {L : Type 0} (m : Functions L) where
   -- the report begins, or it has no text
   abbrev pub report_begins : List ℕ → ℕ → Surroundings (Waiting L) → List ℕ → Begun → Stepped (State L)
   report_begins head c a out (Over printed r) = Halt (out ++ printed) (reported head r)
-  report_begins head c a out (Calls code given cells after) = enters code given cells (Base (Report head c after)) a out
+  report_begins head c a out (Calls code given cells after) = enters false code given cells (Base (Report head c after)) a out
   report_begins head c a out other = undefined out
 
   abbrev pub report_began : List ℕ → ℕ → Surroundings (Waiting L) → List ℕ → Began → Stepped (State L)
@@ -197,7 +197,7 @@ module _ {L : Type 0} (m : Functions L) where
 
   -- the module of the script begins
   abbrev pub script_begins : Surroundings (Waiting L) → List ℕ → Stepped (State L)
-  script_begins a out = enters 0 [] [] (Base Script) (with_scene a (with_frames (scene a) 0)) out
+  script_begins a out = enters false 0 [] [] (Base Script) (with_scene a (with_frames (scene a) 0)) out
 
   -- the activation at the bottom has ended so; c is its function
   abbrev pub module_ended : ℕ → Surroundings (Waiting L) → List ℕ → Stepped (State L) → End → Stepped (State L)

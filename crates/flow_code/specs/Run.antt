@@ -5,6 +5,7 @@ use Rattle.nu_run.specs.Runs.{Run}
 use Rattle.nu_run.specs.Steps.{Stepped, Halt, on_step, run}
 use Rattle.nu_value.specs.declared.header.Header.{Header}
 use Rattle.nu_calls.specs.Surroundings.{Surroundings}
+use Rattle.nu_calls.specs.Calls.{of_kind}
 use Rattle.nu_calls.specs.Rules.{Rules}
 use Rattle.flow_code.specs.declared.cut.CutFunction.{CutFunction}
 use Rattle.flow_code.specs.declared.cut.CutScript.{CutScript}
@@ -31,16 +32,16 @@ abbrev pub lines_of : Option FlatFunction → List Line
 lines_of (Some f) = f.body
 lines_of None = []
 
-abbrev pub is_there : Option FlatFunction → Bool
-is_there (Some f) = true
-is_there None = false
+abbrev pub is_there : Bool → Option FlatFunction → Bool
+is_there kind (Some f) = of_kind kind f.generator
+is_there kind None = false
 
 -- what stands before a function's body
 abbrev pub header : FlatFunction → Header
 header f = record { scope = f.scope; params = f.params; generator = f.generator; line = f.line }
 
 -- functions with the lines that are left as places, where `lines` gives those of each
-abbrev pub with_lines : Rules → ℕ → List ℕ → List Header → (ℕ → Bool) → (ℕ → List Line) → Functions (List Line)
+abbrev pub with_lines : Rules → ℕ → List ℕ → List Header → (Bool → ℕ → Bool) → (ℕ → List Line) → Functions (List Line)
 with_lines rules scripts file headers has lines = record {
   rules = rules;
   scripts = scripts;
@@ -53,7 +54,7 @@ with_lines rules scripts file headers has lines = record {
 }
 
 abbrev pub functions : Rules → FlatScript → Functions (List Line)
-functions rules script = with_lines rules script.scripts script.name (map header script.functions) (λ c. is_there (slice_get script.functions c)) (λ c. lines_of (slice_get script.functions c))
+functions rules script = with_lines rules script.scripts script.name (map header script.functions) (λ kind c. is_there kind (slice_get script.functions c)) (λ c. lines_of (slice_get script.functions c))
 
 abbrev pub start_around : {L : Type 0} → Functions L → List ℕ → Surroundings (Waiting L)
 start_around m input = record { world = m.rules.start m.headers; kept = []; input = input; frames = 0 }
@@ -61,7 +62,7 @@ start_around m input = record { world = m.rules.start m.headers; kept = []; inpu
 -- the module of the built-in text, if there is one, stands behind the script's functions, and runs first
 abbrev pub begun : {L : Type 0} → Functions L → List ℕ → Stepped (State L)
 begun m input =
-    if nat_lt 0 m.scripts then (if nat_lt m.scripts (length m.headers) then enters m m.scripts [] [] (Base Builtins) (start_around m input) [] else enters m 0 [] [] (Base Script) (start_around m input) []) else Halt [] (end.Undefined 0 0)
+    if nat_lt 0 m.scripts then (if nat_lt m.scripts (length m.headers) then enters m false m.scripts [] [] (Base Builtins) (start_around m input) [] else enters m false 0 [] [] (Base Script) (start_around m input) []) else Halt [] (end.Undefined 0 0)
 
 -- the run of functions over an input
 abbrev pub machine_run : {L : Type 0} → Functions L → List ℕ → ℕ → Run
@@ -74,15 +75,15 @@ abbrev pub cut_lines_of : Option CutFunction → List Line
 cut_lines_of (Some f) = f.body
 cut_lines_of None = []
 
-abbrev pub cut_is_there : Option CutFunction → Bool
-cut_is_there (Some f) = true
-cut_is_there None = false
+abbrev pub cut_is_there : Bool → Option CutFunction → Bool
+cut_is_there kind (Some f) = of_kind kind f.generator
+cut_is_there kind None = false
 
 abbrev pub cut_header : CutFunction → Header
 cut_header f = record { scope = f.scope; params = f.params; generator = f.generator; line = f.line }
 
 abbrev pub cut_functions : Rules → CutScript → Functions (List Line)
-cut_functions rules script = with_lines rules script.scripts script.name (map cut_header script.functions) (λ c. cut_is_there (slice_get script.functions c)) (λ c. cut_lines_of (slice_get script.functions c))
+cut_functions rules script = with_lines rules script.scripts script.name (map cut_header script.functions) (λ kind c. cut_is_there kind (slice_get script.functions c)) (λ c. cut_lines_of (slice_get script.functions c))
 
 -- the run of cut code over an input
 abbrev pub cut_run : Rules → CutScript → List ℕ → ℕ → Run

@@ -38,11 +38,12 @@ back_cases P (value.Obj n) u h = h (λ e. cc)
 -- the code of functions stands for their blocks: their labels and fail label stand where they have to, and what a
 -- function was handed comes to its first registers
 pub record Stands (q : Code) : Type 0 where
-  pub owns : (c : ℕ) → q.has c ≡ true → Owns (q.lines c) (q.blocks c) 1 (top (q.blocks c))
-  pub fails : (c : ℕ) → q.has c ≡ true → Fails (q.blocks c) (find 0 (q.lines c))
-  pub absent : (c : ℕ) → q.has c ≡ false → q.blocks c ≡ tree.Stop
-  pub is_there : (c : ℕ) (given cells : List Value) (f : node.Frame) → q.frames c given cells ≡ Some f → q.has c ≡ true
-  pub opens : (c : ℕ) (given cells : List Value) (f : node.Frame) → q.frames c given cells ≡ Some f → (stack : Stack) (a : Surroundings Waiting) (out : List ℕ) → C q (machine.at c (q.lines c) (machine.fresh c given cells) None stack a out) (machine.at c (body_lines (q.blocks c)) (flat_frame f) None stack a out)
+  pub owns : (c : ℕ) → q.there c ≡ true → Owns (q.lines c) (q.blocks c) 1 (top (q.blocks c))
+  pub fails : (c : ℕ) → q.there c ≡ true → Fails (q.blocks c) (find 0 (q.lines c))
+  pub absent : (c : ℕ) → q.there c ≡ false → q.blocks c ≡ tree.Stop
+  pub is_there : (kind : Bool) (c : ℕ) (given cells : List Value) (f : node.Frame) → q.frames kind c given cells ≡ Some f → q.has kind c ≡ true
+  pub there : (kind : Bool) (c : ℕ) → q.has kind c ≡ true → q.there c ≡ true
+  pub opens : (kind : Bool) (c : ℕ) (given cells : List Value) (f : node.Frame) → q.frames kind c given cells ≡ Some f → (stack : Stack) (a : Surroundings Waiting) (out : List ℕ) → C q (machine.at c (q.lines c) (machine.fresh c given cells) None stack a out) (machine.at c (body_lines (q.blocks c)) (flat_frame f) None stack a out)
 
 module _ (q : Code) (stands : Stands q) where
   -- what the machine does from a state, where a whole body has an outcome
@@ -82,7 +83,7 @@ module _ (q : Code) (stands : Stands q) where
 
   -- the bodies of all codes run within each smaller bound, whoever began them
   abbrev pub BodiesRun : ℕ → Type 0
-  BodiesRun n = (m : ℕ) → m < n → (c : ℕ) → q.has c ≡ true → (stack : Stack) → BodyRuns m c stack
+  BodiesRun n = (m : ℕ) → m < n → (c : ℕ) → q.there c ≡ true → (stack : Stack) → BodyRuns m c stack
 
   nils : (o : List ℕ) → (o ++ []) ++ [] ≡ o
   nils o = append-nil (o ++ []) ∙ append-nil o
@@ -161,27 +162,27 @@ module _ (q : Code) (stands : Stands q) where
     spent_now base s s1 h e = let d = h.by 0 in (d.0, omega arith, d.2 ∙ ap (λ u. runs.Going u) (e ∙ sym (append-nil base)))
 
     -- a function that is there begins
-    entering : (s : Machine) (base : List ℕ) (c : ℕ) (given cells : List Value) (st : Stack) (b : Surroundings (Pause node.Frame)) → q.has c ≡ true → Reaches q s (machine.enters (mm q) c given cells st (fw q b) base) → Reaches q s (More (machine.at c (q.lines c) (machine.fresh c given cells) None st (with_scene (fw q b) (inside q.rules q.scripts (scene (fw q b)) c)) base))
-    entering s base c given cells st b e h =
+    entering : (kind : Bool) (s : Machine) (base : List ℕ) (c : ℕ) (given cells : List Value) (st : Stack) (b : Surroundings (Pause node.Frame)) → q.has kind c ≡ true → Reaches q s (machine.enters (mm q) kind c given cells st (fw q b) base) → Reaches q s (More (machine.at c (q.lines c) (machine.fresh c given cells) None st (with_scene (fw q b) (inside q.rules q.scripts (scene (fw q b)) c)) base))
+    entering kind s base c given cells st b e h =
         subst (λ y. Reaches q s (if y then More (machine.at c (q.lines c) (machine.fresh c given cells) None st (with_scene (fw q b) (inside q.rules q.scripts (scene (fw q b)) c)) base) else machine.undefined base)) e h
 
-    calls_ran : (n : ℕ) → BodiesRun n → (base : List ℕ) (s : Machine) (b : Surroundings (Pause node.Frame)) (c : ℕ) (given cells : List Value) (aft : After) (fr : Option node.Frame) → q.frames c given cells ≡ fr → Reaches q s (machine.enters (mm q) c given cells (machine.Called w aft stack) (fw q b) base) → Wrote n base s (entered (run_rows q kc stack n) (calls (lang q) (state_of f b) c aft fr))
+    calls_ran : (n : ℕ) → BodiesRun n → (base : List ℕ) (s : Machine) (b : Surroundings (Pause node.Frame)) (c : ℕ) (given cells : List Value) (aft : After) (fr : Option node.Frame) → q.frames false c given cells ≡ fr → Reaches q s (machine.enters (mm q) false c given cells (machine.Called w aft stack) (fw q b) base) → Wrote n base s (entered (run_rows q kc stack n) (calls (lang q) (state_of f b) c aft fr))
     calls_ran n bodies base s b c given cells aft None e h = tt
     calls_ran zero bodies base s b c given cells aft (Some g) e h =
-        spent_now base s _ (entering s base c given cells _ b (stands.is_there c given cells g e) h) refl
+        spent_now base s _ (entering false s base c given cells _ b (stands.is_there false c given cells g e) h) refl
     calls_ran (suc m) bodies base s b c given cells aft (Some g) e h =
-        let has = stands.is_there c given cells g e in
+        let has = stands.is_there false c given cells g e in
         let st = machine.Called w aft stack in
-        body_called m c aft base s _ _ (goes_comes _ _ _ _ _ (reaches_goes q s _ (entering s base c given cells st b has h)) (stands.opens c given cells g e st _ base)) ((bodies m (omega arith) c has st).begins (enters (lang q) b c g) base)
+        body_called m c aft base s _ _ (goes_comes _ _ _ _ _ (reaches_goes q s _ (entering false s base c given cells st b has h)) (stands.opens false c given cells g e st _ base)) ((bodies m (omega arith) c (stands.there false c has) st).begins (enters (lang q) b c g) base)
 
-    starts_ran : (n : ℕ) → BodiesRun n → (base : List ℕ) (s : Machine) (b : Surroundings (Pause node.Frame)) (g c : ℕ) (given cells : List Value) (fr : Option node.Frame) → q.frames c given cells ≡ fr → Reaches q s (machine.enters (mm q) c given cells (machine.Resumed w g c false stack) (fw q b) base) → Wrote n base s (entered (run_rows q kc stack n) (starts (lang q) (state_of f b) g c fr))
+    starts_ran : (n : ℕ) → BodiesRun n → (base : List ℕ) (s : Machine) (b : Surroundings (Pause node.Frame)) (g c : ℕ) (given cells : List Value) (fr : Option node.Frame) → q.frames true c given cells ≡ fr → Reaches q s (machine.enters (mm q) true c given cells (machine.Resumed w g c false stack) (fw q b) base) → Wrote n base s (entered (run_rows q kc stack n) (starts (lang q) (state_of f b) g c fr))
     starts_ran n bodies base s b g c given cells None e h = tt
     starts_ran zero bodies base s b g c given cells (Some x) e h =
-        spent_now base s _ (entering s base c given cells _ b (stands.is_there c given cells x e) h) refl
+        spent_now base s _ (entering true s base c given cells _ b (stands.is_there true c given cells x e) h) refl
     starts_ran (suc m) bodies base s b g c given cells (Some x) e h =
-        let has = stands.is_there c given cells x e in
+        let has = stands.is_there true c given cells x e in
         let st = machine.Resumed w g c false stack in
-        body_resumed m c g false base s _ _ (goes_comes _ _ _ _ _ (reaches_goes q s _ (entering s base c given cells st b has h)) (stands.opens c given cells x e st _ base)) ((bodies m (omega arith) c has st).begins (enters (lang q) b c x) base)
+        body_resumed m c g false base s _ _ (goes_comes _ _ _ _ _ (reaches_goes q s _ (entering true s base c given cells st b has h)) (stands.opens true c given cells x e st _ base)) ((bodies m (omega arith) c (stands.there true c has) st).begins (enters (lang q) b c x) base)
 
     resumes_is : (k : Pause node.Frame) (st : Stack) (b : Surroundings (Pause node.Frame)) (base : List ℕ) (how : How) → machine.settles (mm q) (keeps q k) st (fw q b) base (machine.told (mm q) how) ≡ More (resume_at q k.code st (body_points (q.blocks k.code) k.place) how (state_of k.frame b) base)
     resumes_is k st b base (Send v) = refl
@@ -196,7 +197,7 @@ module _ (q : Code) (stands : Stands q) where
     absent_ran m blk e base s p how t g c closing =
         subst (λ z. Wrote (suc m) base s (left_by (does (row_of q) (node.block_row (lang q) z) (Back p how) t m) (leave_generator (lang q) f g c closing))) (sym e) tt
 
-    woken_ran : (m : ℕ) → BodiesRun (suc m) → (base : List ℕ) (s : Machine) (b : Surroundings (Pause node.Frame)) (g : ℕ) (how : How) (closing : Bool) (k : Pause node.Frame) (x : Bool) → q.has k.code ≡ x → Reaches q s (More (resume_at q k.code (machine.Resumed w g k.code closing stack) (body_points (q.blocks k.code) k.place) how (state_of k.frame b) base)) → Wrote (suc m) base s (left_by (does (row_of q) (body_row k.code) (Back k.place how) (state_of k.frame b) m) (leave_generator (lang q) f g k.code closing))
+    woken_ran : (m : ℕ) → BodiesRun (suc m) → (base : List ℕ) (s : Machine) (b : Surroundings (Pause node.Frame)) (g : ℕ) (how : How) (closing : Bool) (k : Pause node.Frame) (x : Bool) → q.there k.code ≡ x → Reaches q s (More (resume_at q k.code (machine.Resumed w g k.code closing stack) (body_points (q.blocks k.code) k.place) how (state_of k.frame b) base)) → Wrote (suc m) base s (left_by (does (row_of q) (body_row k.code) (Back k.place how) (state_of k.frame b) m) (leave_generator (lang q) f g k.code closing))
     woken_ran m bodies base s b g how closing k true e h =
         body_resumed m k.code g closing base s _ _ (reaches_goes q s _ h) ((bodies m (omega arith) k.code e _).goes_on k.place how (state_of k.frame b) base)
     woken_ran m bodies base s b g how closing k false e h =
@@ -213,12 +214,12 @@ module _ (q : Code) (stands : Stands q) where
         let b' = with_scene (with_kept b g None) (inside q.rules q.scripts (scene b) k.code) in
         let st = machine.Resumed w g k.code closing stack in
         let r = subst (λ y. Reaches q s (machine.settles (mm q) (keeps q k) st (with_scene y (inside q.rules q.scripts (scene b) k.code)) base (machine.told (mm q) how))) (fw_kept q b g None) h in
-        woken_ran m bodies base s b' g how closing k (q.has k.code) refl (reaches_is q s _ _ (resumes_is k st b' base how) r)
+        woken_ran m bodies base s b' g how closing k (q.there k.code) refl (reaches_is q s _ _ (resumes_is k st b' base how) r)
 
     begins_ran : (n : ℕ) → BodiesRun n → (base : List ℕ) (s : Machine) (b : Surroundings (Pause node.Frame)) (x : Begun) → Reaches q s (machine.begins (mm q) w stack (fw q b) base x) → Wrote n base s (entered (run_rows q kc stack n) (entry (lang q) (state_of f b) x))
     begins_ran n bodies base s b (Over out r) h = settled n base out s b r h
-    begins_ran n bodies base s b (Calls c given cells aft) h = calls_ran n bodies base s b c given cells aft (q.frames c given cells) refl h
-    begins_ran n bodies base s b (Starts g c given cells) h = starts_ran n bodies base s b g c given cells (q.frames c given cells) refl h
+    begins_ran n bodies base s b (Calls c given cells aft) h = calls_ran n bodies base s b c given cells aft (q.frames false c given cells) refl h
+    begins_ran n bodies base s b (Starts g c given cells) h = starts_ran n bodies base s b g c given cells (q.frames true c given cells) refl h
     begins_ran n bodies base s b (Wakes g how closing) h =
         goes_ran n bodies base s b g how closing (kept_at b.kept g) (subst (λ y. Reaches q s (machine.goes_on (mm q) w g how closing stack (fw q b) base y)) (kept_map (keeps q) b.kept g) h)
 

@@ -200,7 +200,7 @@ module _ (q : Code) (stands : Stands q) (kc : ℕ) (stack : Stack) where
 
 module _ (q : Code) (stands : Stands q) where
   -- a body runs, where the bodies that it begins do
-  pub body_runs : (m c : ℕ) → q.has c ≡ true → (stack : Stack) → BodiesRun q stands m → BodyRuns q stands m c stack
+  pub body_runs : (m c : ℕ) → q.there c ≡ true → (stack : Stack) → BodiesRun q stands m → BodyRuns q stands m c stack
   body_runs m c has stack bodies =
       let r = block_runs q stands c stack (q.blocks c) 1 (top (q.blocks c)) (stands.owns c has) m bodies in
       let fails = raised_fails q stands (q.blocks c) _ (stands.fails c has) in

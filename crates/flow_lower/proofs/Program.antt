@@ -112,23 +112,23 @@ module _ (q : Code) (stands : Stands q) where
   report_body m head c f aft base s s1 (Ended o u (Leave k)) g h = λ d. absurd d
   report_body m head c f aft base s s1 (Ended o u Undefined) g h = λ d. absurd d
 
-  entering : (s : Machine) (base : List ℕ) (c : ℕ) (given cells : List Value) (st : Stack) (b : Surroundings (Pause node.Frame)) → q.has c ≡ true → Reaches q s (machine.enters (mm q) c given cells st (fw q b) base) → Reaches q s (More (machine.at c (q.lines c) (machine.fresh c given cells) None st (with_scene (fw q b) (inside q.rules q.scripts (scene (fw q b)) c)) base))
+  entering : (s : Machine) (base : List ℕ) (c : ℕ) (given cells : List Value) (st : Stack) (b : Surroundings (Pause node.Frame)) → q.has false c ≡ true → Reaches q s (machine.enters (mm q) false c given cells st (fw q b) base) → Reaches q s (More (machine.at c (q.lines c) (machine.fresh c given cells) None st (with_scene (fw q b) (inside q.rules q.scripts (scene (fw q b)) c)) base))
   entering s base c given cells st b e h =
       subst (λ y. Reaches q s (if y then More (machine.at c (q.lines c) (machine.fresh c given cells) None st (with_scene (fw q b) (inside q.rules q.scripts (scene (fw q b)) c)) base) else machine.undefined base)) e h
 
-  report_calls : (n : ℕ) (head : List ℕ) (u : NodeState) (base : List ℕ) (s : Machine) (c : ℕ) (given cells : List Value) (aft : After) (fr : Option node.Frame) → q.frames c given cells ≡ fr → Reaches q s (machine.enters (mm q) c given cells (machine.Base (machine.Report head u.frame.code aft)) (fw q u.around) base) → MainAt n base (λ j. exec q j s) (last n head (entered (rows.run (row_of q) n) (calls (lang q) u c aft fr)))
+  report_calls : (n : ℕ) (head : List ℕ) (u : NodeState) (base : List ℕ) (s : Machine) (c : ℕ) (given cells : List Value) (aft : After) (fr : Option node.Frame) → q.frames false c given cells ≡ fr → Reaches q s (machine.enters (mm q) false c given cells (machine.Base (machine.Report head u.frame.code aft)) (fw q u.around) base) → MainAt n base (λ j. exec q j s) (last n head (entered (rows.run (row_of q) n) (calls (lang q) u c aft fr)))
   report_calls n head u base s c given cells aft None e h = λ d. absurd d
   report_calls zero head u base s c given cells aft (Some g) e h =
-      let a = (entering s base c given cells _ u.around (stands.is_there c given cells g e) h).by 0 in (a.0, omega arith, a.2 ∙ ap (λ z. runs.Going z) (sym (append-nil base)))
+      let a = (entering s base c given cells _ u.around (stands.is_there false c given cells g e) h).by 0 in (a.0, omega arith, a.2 ∙ ap (λ z. runs.Going z) (sym (append-nil base)))
   report_calls (suc m) head u base s c given cells aft (Some g) e h =
-      let has = stands.is_there c given cells g e in
+      let has = stands.is_there false c given cells g e in
       let st = machine.Base (machine.Report head u.frame.code aft) in
-      report_body m head c u.frame aft base s _ _ (goes_comes _ _ _ _ _ (reaches_goes q s _ (entering s base c given cells st u.around has h)) (stands.opens c given cells g e st _ base)) ((body_runs q stands m c has st (bodies_run q stands m)).begins (enters (lang q) u.around c g) base)
+      report_body m head c u.frame aft base s _ _ (goes_comes _ _ _ _ _ (reaches_goes q s _ (entering s base c given cells st u.around has h)) (stands.opens false c given cells g e st _ base)) ((body_runs q stands m c (stands.there false c has) st (bodies_run q stands m)).begins (enters (lang q) u.around c g) base)
 
   report_begins : (n : ℕ) (head : List ℕ) (u : NodeState) (base : List ℕ) (s : Machine) (b : Begun) → Reaches q s (machine.report_begins (mm q) head u.frame.code (fw q u.around) base b) → MainAt n base (λ j. exec q j s) (last n head (entered (rows.run (row_of q) n) (report_entry (lang q) u b)))
   report_begins n head u base s (Over out r) h =
       λ d. halted_end s _ _ _ _ (ap (λ z. base ++ z) (sym (append-nil out))) (report_shows head u r) h
-  report_begins n head u base s (Calls c given cells aft) h = report_calls n head u base s c given cells aft (q.frames c given cells) refl h
+  report_begins n head u base s (Calls c given cells aft) h = report_calls n head u base s c given cells aft (q.frames false c given cells) refl h
   report_begins n head u base s (Starts g c given cells) h = λ d. absurd d
   report_begins n head u base s (Wakes g how closing) h = λ d. absurd d
 
@@ -185,34 +185,34 @@ module _ (q : Code) (stands : Stands q) where
     body_ran c base s (Ended o u (Leave k)) h = λ d. absurd d
     body_ran c base s (Ended o u Undefined) h = λ d. absurd d
 
-    begun_ran : (c : ℕ) (u : NodeState) (base : List ℕ) (E : ℕ → runs.Run) (fr : Option node.Frame) → q.frames c [] [] ≡ fr → Comes_to E (machine.enters (mm q) c [] [] (machine.Base bottom) (fw q (with_scene u.around (with_frames (scene u.around) 0))) base) → MainAt n base E (after (after (Ended (module_begun (lang q) c u fr).out (module_begun (lang q) c u fr).state (module_begun (lang q) c u fr).end) (λ e t. interp (rows.run (row_of q) n) (on_next (λ v. body_row q stands c) e) Begin t)) module_left)
+    begun_ran : (c : ℕ) (u : NodeState) (base : List ℕ) (E : ℕ → runs.Run) (fr : Option node.Frame) → q.frames false c [] [] ≡ fr → Comes_to E (machine.enters (mm q) false c [] [] (machine.Base bottom) (fw q (with_scene u.around (with_frames (scene u.around) 0))) base) → MainAt n base E (after (after (Ended (module_begun (lang q) c u fr).out (module_begun (lang q) c u fr).state (module_begun (lang q) c u fr).end) (λ e t. interp (rows.run (row_of q) n) (on_next (λ v. body_row q stands c) e) Begin t)) module_left)
     begun_ran c u base E None e h = λ d. absurd d
     begun_ran c u base E (Some f) e h =
-        let has = stands.is_there c [] [] f e in
+        let has = stands.is_there false c [] [] f e in
         let b = with_scene u.around (with_frames (scene u.around) 0) in
         let st = machine.Base bottom in
         let t = enters (lang q) b c f in
         let start = machine.at c (q.lines c) (machine.fresh c [] []) None st (with_scene (fw q b) (inside q.rules q.scripts (scene (fw q b)) c)) base in
         let h1 : Comes_to E (More start) = subst (λ y. Comes_to E (if y then More start else machine.undefined base)) has h in
         main_step n base (Second (Next value.None)) E (does (row_of q) (body_row q stands c) Begin t n) module_left
-        (main_from n base E _ _ (to_after E start (go_at q c st (body_lines (q.blocks c)) t base) h1 (stands.opens c [] [] f e st _ base))
-        (body_ran c base _ _ ((body_runs q stands n c has st (bodies_run q stands n)).begins t base)))
+        (main_from n base E _ _ (to_after E start (go_at q c st (body_lines (q.blocks c)) t base) h1 (stands.opens false c [] [] f e st _ base))
+        (body_ran c base _ _ ((body_runs q stands n c (stands.there false c has) st (bodies_run q stands n)).begins t base)))
 
-    module_ran : (c : ℕ) (u : NodeState) (base : List ℕ) (E : ℕ → runs.Run) → Comes_to E (machine.enters (mm q) c [] [] (machine.Base bottom) (fw q (with_scene u.around (with_frames (scene u.around) 0))) base) → MainAt n base E (does (row_of q) (module_row prog q.file c next) Begin u n)
-    module_ran c u base E h = begun_ran c u base E (q.frames c [] []) refl h
+    module_ran : (c : ℕ) (u : NodeState) (base : List ℕ) (E : ℕ → runs.Run) → Comes_to E (machine.enters (mm q) false c [] [] (machine.Base bottom) (fw q (with_scene u.around (with_frames (scene u.around) 0))) base) → MainAt n base E (does (row_of q) (module_row prog q.file c next) Begin u n)
+    module_ran c u base E h = begun_ran c u base E (q.frames false c [] []) refl h
 
   -- the script
-  script_ran : (n : ℕ) (u : NodeState) (base : List ℕ) (E : ℕ → runs.Run) → Comes_to E (machine.enters (mm q) 0 [] [] (machine.Base machine.Script) (fw q (with_scene u.around (with_frames (scene u.around) 0))) base) → MainAt n base E (does (row_of q) (script_row prog q.file) Begin u n)
+  script_ran : (n : ℕ) (u : NodeState) (base : List ℕ) (E : ℕ → runs.Run) → Comes_to E (machine.enters (mm q) false 0 [] [] (machine.Base machine.Script) (fw q (with_scene u.around (with_frames (scene u.around) 0))) base) → MainAt n base E (does (row_of q) (script_row prog q.file) Begin u n)
   script_ran n =
       module_ran n machine.Script (λ a out. Halt out end.Done) (λ c a out e. refl) (ends_with (Next value.None))
       (λ u out E h d. let a = h.by 0 in (a.0, a.2 ∙ ap (λ z. runs.Ended z end.Done) (sym (append-nil out)))) 0
 
   -- the built-in text, and then the script
-  both_ran : (n : ℕ) (u : NodeState) (base : List ℕ) (E : ℕ → runs.Run) → Comes_to E (machine.enters (mm q) q.scripts [] [] (machine.Base machine.Builtins) (fw q (with_scene u.around (with_frames (scene u.around) 0))) base) → MainAt n base E (does (row_of q) (module_row prog q.file q.scripts (script_row prog q.file)) Begin u n)
+  both_ran : (n : ℕ) (u : NodeState) (base : List ℕ) (E : ℕ → runs.Run) → Comes_to E (machine.enters (mm q) false q.scripts [] [] (machine.Base machine.Builtins) (fw q (with_scene u.around (with_frames (scene u.around) 0))) base) → MainAt n base E (does (row_of q) (module_row prog q.file q.scripts (script_row prog q.file)) Begin u n)
   both_ran n =
       module_ran n machine.Builtins (machine.script_begins (mm q)) (λ c a out e. refl) (script_row prog q.file) (λ u out E h. script_ran n u out E h) q.scripts
 
-  whole_ran : (n : ℕ) (input : List ℕ) (x y : Bool) → MainAt n [] (λ j. on_step (if x then (if y then machine.enters (mm q) q.scripts [] [] (machine.Base machine.Builtins) (fw q (start_state prog input).around) [] else machine.enters (mm q) 0 [] [] (machine.Base machine.Script) (fw q (start_state prog input).around) []) else Halt [] (end.Undefined 0 0)) (exec q j)) (does (row_of q) (if x then (if y then module_row prog q.file q.scripts (script_row prog q.file) else script_row prog q.file) else ends_with Undefined) Begin (start_state prog input) n)
+  whole_ran : (n : ℕ) (input : List ℕ) (x y : Bool) → MainAt n [] (λ j. on_step (if x then (if y then machine.enters (mm q) false q.scripts [] [] (machine.Base machine.Builtins) (fw q (start_state prog input).around) [] else machine.enters (mm q) false 0 [] [] (machine.Base machine.Script) (fw q (start_state prog input).around) []) else Halt [] (end.Undefined 0 0)) (exec q j)) (does (row_of q) (if x then (if y then module_row prog q.file q.scripts (script_row prog q.file) else script_row prog q.file) else ends_with Undefined) Begin (start_state prog input) n)
   whole_ran n input true true = both_ran n (start_state prog input) [] _ (record { by = λ k. (k, omega arith, refl) })
   whole_ran n input true false = script_ran n (start_state prog input) [] _ (record { by = λ k. (k, omega arith, refl) })
   whole_ran n input false y = λ d. absurd d

@@ -61,10 +61,11 @@ pub record Code : Type 0 where
   pub scripts : ℕ
   pub file : List ℕ
   pub headers : List Header
-  pub has : ℕ → Bool
+  pub has : Bool → ℕ → Bool
+  pub there : ℕ → Bool
   pub lines : ℕ → List Line
   pub blocks : ℕ → tree.Block
-  pub frames : ℕ → List Value → List Value → Option node.Frame
+  pub frames : Bool → ℕ → List Value → List Value → Option node.Frame
 
 module _ (q : Code) where
   abbrev pub mm : machine.Functions (List Line)

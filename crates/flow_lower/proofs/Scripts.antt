@@ -5,6 +5,7 @@ use Rattle.std.proofs.lemmas.Bool.{leb-true}
 use Rattle.nu_run.specs.Runs.{IsDefined, Same}
 use Rattle.nu_value.specs.declared.value.Value.{Value}
 use Rattle.nu_calls.specs.Surroundings.{Surroundings}
+use Rattle.nu_calls.specs.Calls.{of_kind}
 use Rattle.nu_calls.specs.Rules.{Rules}
 use Rattle.node_tree.specs.declared.script.NodeCode.{NodeCode}
 use Rattle.node_tree.specs.declared.script.NodeScript.{NodeScript}
@@ -56,6 +57,22 @@ both_true true true e = (refl, refl)
 both_true true false e = cc
 both_true false y e = cc
 
+abbrev some_there : Option FlatFunction → Bool
+some_there (Some f) = true
+some_there None = false
+
+kind_there : (kind : Bool) (f : Option FlatFunction) → is_there kind f ≡ true → some_there f ≡ true
+kind_there kind None e = e
+kind_there kind (Some f) e = refl
+
+kind_first : {A : Type 0} (b y : Bool) (x : A) (fr : A) → (if b && y then Some x else None) ≡ Some fr → b ≡ true
+kind_first true y x fr e = refl
+kind_first false y x fr e = cc
+
+kind_rest : {A : Type 0} (b y : Bool) (x : A) (fr : A) → (if b && y then Some x else None) ≡ Some fr → (if y then Some x else None) ≡ Some fr
+kind_rest true y x fr e = e
+kind_rest false y x fr e = cc
+
 module _ (rules : Rules) (script : NodeScript) (flat_script : FlatScript) (h : Lowers script flat_script) where
   abbrev code_at : ℕ → Option NodeCode
   code_at c = slice_get script.codes c
@@ -69,39 +86,40 @@ module _ (rules : Rules) (script : NodeScript) (flat_script : FlatScript) (h : L
     scripts = script.scripts;
     file = script.name;
     headers = map node_header script.codes;
-    has = λ c. is_there (function_at c);
+    has = λ kind c. is_there kind (function_at c);
+    there = λ c. some_there (function_at c);
     lines = λ c. lines_of (function_at c);
     blocks = code_block script.codes;
-    frames = λ c given cells. begun_frame c given cells (code_at c);
+    frames = λ kind c given cells. begun_frame kind c given cells (code_at c);
   }
 
   -- the labels of a function stand behind what copies what it was handed
   behind : (x : NodeCode) (f : FlatFunction) → LowersCode x f → (l : ℕ) → find l f.body ≡ find l (body_lines (block x.body))
   behind x f h l = ap (λ ls. find l ls) h.body ∙ skip_copies l flat.Parameter (length x.params) 0 0 _ ∙ skip_copies l flat.Free x.free (length x.params) 0 _
 
-  fails_at : (x : Option NodeCode) (f : Option FlatFunction) → AtBoth x f → is_there f ≡ true → Fails (block_of x) (find 0 (lines_of f))
+  fails_at : (x : Option NodeCode) (f : Option FlatFunction) → AtBoth x f → some_there f ≡ true → Fails (block_of x) (find 0 (lines_of f))
   fails_at None None b e = cc
   fails_at None (Some f) b e = absurd b
   fails_at (Some x) None b e = absurd b
   fails_at (Some x) (Some f) b e = subst (λ ls. Fails (block x.body) ls) (sym (behind x f b 0)) (body_fail (block x.body))
 
-  owns_at : (x : Option NodeCode) (f : Option FlatFunction) → AtBoth x f → is_there f ≡ true → Owns (lines_of f) (block_of x) 1 (top (block_of x))
+  owns_at : (x : Option NodeCode) (f : Option FlatFunction) → AtBoth x f → some_there f ≡ true → Owns (lines_of f) (block_of x) 1 (top (block_of x))
   owns_at None None b e = cc
   owns_at None (Some f) b e = absurd b
   owns_at (Some x) None b e = absurd b
   owns_at (Some x) (Some f) b e = record { by = λ l p r. behind x f b l }
 
-  absent_at : (x : Option NodeCode) (f : Option FlatFunction) → AtBoth x f → is_there f ≡ false → block_of x ≡ tree.Stop
+  absent_at : (x : Option NodeCode) (f : Option FlatFunction) → AtBoth x f → some_there f ≡ false → block_of x ≡ tree.Stop
   absent_at None None b e = refl
   absent_at None (Some f) b e = absurd b
   absent_at (Some x) None b e = absurd b
   absent_at (Some x) (Some f) b e = cc
 
-  there_at : (c : ℕ) (given cells : List Value) (fr : node.Frame) (x : Option NodeCode) (f : Option FlatFunction) → AtBoth x f → begun_frame c given cells x ≡ Some fr → is_there f ≡ true
-  there_at c given cells fr None None b e = cc
-  there_at c given cells fr None (Some f) b e = refl
-  there_at c given cells fr (Some x) None b e = absurd b
-  there_at c given cells fr (Some x) (Some f) b e = refl
+  there_at : (kind : Bool) (c : ℕ) (given cells : List Value) (fr : node.Frame) (x : Option NodeCode) (f : Option FlatFunction) → AtBoth x f → begun_frame kind c given cells x ≡ Some fr → is_there kind f ≡ true
+  there_at kind c given cells fr None None b e = cc
+  there_at kind c given cells fr None (Some f) b e = absurd b
+  there_at kind c given cells fr (Some x) None b e = absurd b
+  there_at kind c given cells fr (Some x) (Some f) b e = ap (of_kind kind) b.generator ∙ kind_first (of_kind kind x.generator) _ _ fr e
 
   abbrev Opens : ℕ → List Value → List Value → node.Frame → tree.Block → List Line → Type 0
   Opens c given cells fr b ls = (stack : Stack) (a : Surroundings Waiting) (out : List ℕ) → C q (machine.at c ls (machine.fresh c given cells) None stack a out) (machine.at c (body_lines b) (flat_frame fr) None stack a out)
@@ -116,27 +134,28 @@ module _ (rules : Rules) (script : NodeScript) (flat_script : FlatScript) (h : L
       subst (λ z. C q (machine.at c (code_lines x) (machine.fresh c given cells) None stack a out) (machine.at c (body_lines (block x.body)) (flat_frame z) None stack a out)) ef
       (opening q c stack a out given cells (length x.params) x.free (body_lines (block x.body)) (leb-true _ _ t.0) (leb-true _ _ t.1))
 
-  opens_at : (c : ℕ) (given cells : List Value) (fr : node.Frame) (x : Option NodeCode) (f : Option FlatFunction) → AtBoth x f → begun_frame c given cells x ≡ Some fr → Opens c given cells fr (block_of x) (lines_of f)
-  opens_at c given cells fr None None b e = λ stack a out. cc
-  opens_at c given cells fr None (Some f) b e = absurd b
-  opens_at c given cells fr (Some x) None b e = absurd b
-  opens_at c given cells fr (Some x) (Some f) b e =
-      subst (λ ls. Opens c given cells fr (block x.body) ls) (sym b.body) (opens_code c given cells fr x _ refl e)
+  opens_at : (kind : Bool) (c : ℕ) (given cells : List Value) (fr : node.Frame) (x : Option NodeCode) (f : Option FlatFunction) → AtBoth x f → begun_frame kind c given cells x ≡ Some fr → Opens c given cells fr (block_of x) (lines_of f)
+  opens_at kind c given cells fr None None b e = λ stack a out. cc
+  opens_at kind c given cells fr None (Some f) b e = absurd b
+  opens_at kind c given cells fr (Some x) None b e = absurd b
+  opens_at kind c given cells fr (Some x) (Some f) b e =
+      subst (λ ls. Opens c given cells fr (block x.body) ls) (sym b.body) (opens_code c given cells fr x _ refl (kind_rest (of_kind kind x.generator) _ _ fr e))
 
   stands : Stands q
   stands = record {
     owns = λ c e. owns_at (code_at c) (function_at c) (at_each script.codes flat_script.functions h.functions c) e;
     fails = λ c e. fails_at (code_at c) (function_at c) (at_each script.codes flat_script.functions h.functions c) e;
     absent = λ c e. absent_at (code_at c) (function_at c) (at_each script.codes flat_script.functions h.functions c) e;
-    is_there = λ c given cells f e. there_at c given cells f (code_at c) (function_at c) (at_each script.codes flat_script.functions h.functions c) e;
-    opens = λ c given cells f e. opens_at c given cells f (code_at c) (function_at c) (at_each script.codes flat_script.functions h.functions c) e;
+    is_there = λ kind c given cells f e. there_at kind c given cells f (code_at c) (function_at c) (at_each script.codes flat_script.functions h.functions c) e;
+    there = λ kind c e. kind_there kind (function_at c) e;
+    opens = λ kind c given cells f e. opens_at kind c given cells f (code_at c) (function_at c) (at_each script.codes flat_script.functions h.functions c) e;
   }
 
   machine_is : (input : List ℕ) → machine_run (mm q) input ≡ flat_run rules flat_script input
   machine_is input =
-      ap (λ n. machine_run (with_lines rules n script.name (map node_header script.codes) (λ c. is_there (function_at c)) (λ c. lines_of (function_at c))) input) (sym h.scripts)
-      ∙ ap (λ n. machine_run (with_lines rules flat_script.scripts n (map node_header script.codes) (λ c. is_there (function_at c)) (λ c. lines_of (function_at c))) input) (sym h.name)
-      ∙ ap (λ n. machine_run (with_lines rules flat_script.scripts flat_script.name n (λ c. is_there (function_at c)) (λ c. lines_of (function_at c))) input) (sym (headers_same script.codes flat_script.functions h.functions))
+      ap (λ n. machine_run (with_lines rules n script.name (map node_header script.codes) (λ kind c. is_there kind (function_at c)) (λ c. lines_of (function_at c))) input) (sym h.scripts)
+      ∙ ap (λ n. machine_run (with_lines rules flat_script.scripts n (map node_header script.codes) (λ kind c. is_there kind (function_at c)) (λ c. lines_of (function_at c))) input) (sym h.name)
+      ∙ ap (λ n. machine_run (with_lines rules flat_script.scripts flat_script.name n (λ kind c. is_there kind (function_at c)) (λ c. lines_of (function_at c))) input) (sym (headers_same script.codes flat_script.functions h.functions))
 
   script_same : (input : List ℕ) → IsDefined (node_run rules script input) → Same (node_run rules script input) (flat_run rules flat_script input)
   script_same input d = subst (λ r. Same (node_run rules script input) r) (machine_is input) (program_same q stands input d)

@@ -1,8 +1,9 @@
 -- The runs of node trees.
-use Rattle.std.specs.Prelude.{ℕ, List, [], ◌++◌, map, take, length, Option, Some, None, ◌&&◌, nat_le, if◌then◌else◌, slice_get}
+use Rattle.std.specs.Prelude.{ℕ, Bool, List, [], ◌++◌, map, take, length, Option, Some, None, ◌&&◌, nat_le, if◌then◌else◌, slice_get}
 use Rattle.nu_run.specs.Runs.{Run}
 use Rattle.nu_value.specs.declared.header.Header.{Header}
 use Rattle.nu_value.specs.declared.value.Value.{Value}
+use Rattle.nu_calls.specs.Calls.{of_kind}
 use Rattle.nu_calls.specs.Rules.{Rules}
 use Rattle.nu_calls.specs.Scripts.{Program, program_run}
 use Rattle.node_tree.specs.declared.script.NodeCode.{NodeCode}
@@ -11,10 +12,10 @@ use Rattle.node_tree.specs.Tree.{code_block}
 use Rattle.node_tree.specs.Nodes.{Frame, Item, OfCode, L, block_row, item_row}
 
 -- the parameters and the free cells are the first temporaries; a code begins where there is a value for each
-abbrev pub begun_frame : ℕ → List Value → List Value → Option NodeCode → Option Frame
-begun_frame code given cells None = None
-begun_frame code given cells (Some c) =
-    if nat_le (length c.params) (length given) && nat_le c.free (length cells) then Some (record { code = code; given = given; cells = cells; temps = slice_get (take (length c.params) given ++ take c.free cells) }) else None
+abbrev pub begun_frame : Bool → ℕ → List Value → List Value → Option NodeCode → Option Frame
+begun_frame kind code given cells None = None
+begun_frame kind code given cells (Some c) =
+    if of_kind kind c.generator && (nat_le (length c.params) (length given) && nat_le c.free (length cells)) then Some (record { code = code; given = given; cells = cells; temps = slice_get (take (length c.params) given ++ take c.free cells) }) else None
 
 -- what stands before the body of a code
 abbrev pub header : NodeCode → Header
@@ -25,7 +26,7 @@ language rules script = record {
   rules = rules;
   scripts = script.scripts;
   body = OfCode;
-  frame = λ code given cells. begun_frame code given cells (slice_get script.codes code);
+  frame = λ kind code given cells. begun_frame kind code given cells (slice_get script.codes code);
   code = λ f. f.code;
 }
 

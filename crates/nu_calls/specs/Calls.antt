@@ -1,5 +1,5 @@
 -- Operations, calls, asks and resumes as rows.
-use Rattle.std.specs.Prelude.{ℕ, List, [], Option, Some, None, Bool, false, if◌then◌else◌}
+use Rattle.std.specs.Prelude.{ℕ, List, [], Option, Some, None, Bool, true, false, if◌then◌else◌}
 use Rattle.nu_value.specs.declared.value.Value.{Value}
 use Rattle.nu_value.specs.declared.value.Value.TheVariants as value
 use Rattle.op_rules.specs.declared.end.After.{After}
@@ -27,6 +27,12 @@ state_of f a = record { frame = f; around = a }
 abbrev pub in_scene : {F : Type 0} → State F → Scene → State F
 in_scene s a = state_of s.frame (with_scene s.around a)
 
+-- whether a code is of a kind: that of a generator, or another
+abbrev pub of_kind : Bool → Bool → Bool
+of_kind true b = b
+of_kind false true = false
+of_kind false false = true
+
 -- a language whose bodies are run by calls and resumes: the rules of its operations, how many of its codes belong to the
 -- script, the item of a code's body, the frame with which a code begins, of values for its parameters and free cells,
 -- and the code that a frame belongs to
@@ -34,7 +40,7 @@ pub record Language (F I : Type 0) : Type 0 where
   pub rules : Rules
   pub scripts : ℕ
   pub body : ℕ → I
-  pub frame : ℕ → List Value → List Value → Option F
+  pub frame : Bool → ℕ → List Value → List Value → Option F
   pub code : F → ℕ
 
 -- how a row ends, where an operation ends so
@@ -94,8 +100,8 @@ goes_on l s g h closing (Some k) =
 -- what an operation of a frame's code begins
 abbrev pub entry : {F I : Type 0} → Language F I → State F → Begun → Entry (State F) I
 entry l s (Over out r) = Instead (record { out = out; state = s; end = end_of r })
-entry l s (Calls code given cells after) = calls l s code after (l.frame code given cells)
-entry l s (Starts g code given cells) = starts l s g code (l.frame code given cells)
+entry l s (Calls code given cells after) = calls l s code after (l.frame false code given cells)
+entry l s (Starts g code given cells) = starts l s g code (l.frame true code given cells)
 entry l s (Wakes g h closing) = goes_on l s g h closing (kept_at s.around.kept g)
 
 abbrev pub began : {F I : Type 0} → Language F I → State F → Began → Entry (State F) I

@@ -1,5 +1,5 @@
 -- Runs of scripts: the built-in text as a module, then the script, and the text of what nothing caught.
-use Rattle.std.specs.Prelude.{ℕ, zero, List, [], ◌∷◌, ◌++◌, Option, Some, None, nat_lt, length, if◌then◌else◌, codes, slice_get}
+use Rattle.std.specs.Prelude.{ℕ, zero, List, [], ◌∷◌, ◌++◌, Option, Some, None, false, nat_lt, length, if◌then◌else◌, codes, slice_get}
 use Rattle.nu_run.specs.declared.End as run_end
 use Rattle.nu_run.specs.declared.End.TheVariants as end
 use Rattle.nu_run.specs.Runs.{Run}
@@ -27,7 +27,7 @@ report_function w = value_at (names_of (slice_get w.heap w.builtins)) (codes "_n
 -- it is called, if it can be; it is no generator
 abbrev pub report_entry : {F I : Type 0} → Language F I → State F → Begun → Entry (State F) I
 report_entry l s (Over out r) = Instead (record { out = out; state = s; end = end_of r })
-report_entry l s (Calls code given cells after) = calls l s code after (l.frame code given cells)
+report_entry l s (Calls code given cells after) = calls l s code after (l.frame false code given cells)
 report_entry l s other = Instead (unsaid s)
 
 abbrev pub report_began : {F I : Type 0} → Language F I → State F → Began → Entry (State F) I
@@ -93,7 +93,7 @@ module_ended l file next other = ends_with Undefined
 -- the code of a module, and what follows it
 abbrev pub module_row : {F I : Type 0} → Program F I → List ℕ → ℕ → Row (State F) I → Row (State F) I
 module_row p file code next =
-    Then (Then (Act (λ s. module_begun p.language code s (p.language.frame code [] []))) (on_next (λ v. p.body code))) (λ e. module_ended p.language file next (given_back e))
+    Then (Then (Act (λ s. module_begun p.language code s (p.language.frame false code [] []))) (on_next (λ v. p.body code))) (λ e. module_ended p.language file next (given_back e))
 
 -- the script is code 0; the module of the built-in text, if there is one, stands behind the script's codes, and runs first
 abbrev pub script_row : {F I : Type 0} → Program F I → List ℕ → Row (State F) I
