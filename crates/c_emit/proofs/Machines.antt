@@ -483,7 +483,7 @@ module _ (rules : Rules) (script : CutScript) (declared : (k : ℕ) (f : CutFunc
 
   pends_match : (j : Joint) (l e : ℕ) (o : Option Object) → Match (cut.pending_exception m (one j) l e o) (c.pends (other j) (goal_in 0 (map line_of j.active.function.body) l) e o)
   pends_match j l e None = λ d. absurd d
-  pends_match j l e (Some (object.Exception class args entries fields)) = jumps_match j (Some e) l
+  pends_match j l e (Some (object.Exception class args entries fields cause)) = jumps_match j (Some e) l
   pends_match j l e (Some o) = λ d. absurd d
 
   again_match : (j : Joint) (l : ℕ) (v : Option Value) → Match (cut.using v (cut.undefined j.out) (cut.again m (one j) l)) (c.again (other j) (goal_in 0 (map line_of j.active.function.body) l) v)

@@ -39,7 +39,7 @@ by_answer c s x (Some answer) = meaning.began table_rules c s x (begun_by c.scri
 
 -- an object with an entry more, if it is an exception
 abbrev pub entry_in : Entry → Object → Object
-entry_in entry (object.Exception class args entries fields) = object.Exception class args (entry ∷ entries) fields
+entry_in entry (object.Exception class args entries fields cause) = object.Exception class args (entry ∷ entries) fields cause
 entry_in entry other = other
 
 -- the next statement

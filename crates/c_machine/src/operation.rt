@@ -72,6 +72,7 @@ fn exception_made(
             args,
             entries: Entries::new(alloc),
             fields: Names::new(alloc),
+            cause: None,
         }),
         _ => Ok(class),
     }

@@ -69,7 +69,7 @@ module _ (base : List ℕ) where
 
   pends_grows : (s : State) (goal : Option ℕ) (e : ℕ) (x : Option Object) → IsPrefix base s.printed → Grows (pends s goal e x)
   pends_grows s goal e None p = p
-  pends_grows s goal e (Some (object.Exception class args entries fields)) p = jumps_grows _ goal p
+  pends_grows s goal e (Some (object.Exception class args entries fields cause)) p = jumps_grows _ goal p
   pends_grows s goal e (Some other) p = p
 
   again_grows : (s : State) (goal : Option ℕ) (v : Option Value) → IsPrefix base s.printed → Grows (again s goal v)

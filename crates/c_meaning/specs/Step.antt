@@ -119,7 +119,7 @@ takes s to (Some e) = next (put (pend s None) to (value.Obj e))
 
 -- an exception is pending, without an entry
 abbrev pub pends : State → Option ℕ → ℕ → Option Object → Stepped State
-pends s goal e (Some (object.Exception class args entries fields)) = jumps (pend s (Some e)) goal
+pends s goal e (Some (object.Exception class args entries fields cause)) = jumps (pend s (Some e)) goal
 pends s goal e other = undefined s
 
 abbrev pub again : State → Option ℕ → Option Value → Stepped State

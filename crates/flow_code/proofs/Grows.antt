@@ -130,7 +130,7 @@ module _ {L : Type 0} (m : Functions L) (base : List ℕ) where
 
   pending_grows : (s : State L) (l e : ℕ) (x : Option Object) → IsPrefix base s.out → Grows (pending_exception m s l e x)
   pending_grows s l e None p = p
-  pending_grows s l e (Some (object.Exception class args entries fields)) p = p
+  pending_grows s l e (Some (object.Exception class args entries fields cause)) p = p
   pending_grows s l e (Some other) p = p
 
   again_grows : (s : State L) (l : ℕ) (v : Value) → IsPrefix base s.out → Grows (again m s l v)

@@ -238,7 +238,7 @@ module _ {L : Type 0} (m : Functions L) where
   branches s next l v = undefined s.out
 
   abbrev pub pending_exception : State L → ℕ → ℕ → Option Object → Stepped (State L)
-  pending_exception s l e (Some (object.Exception class args entries fields)) = More (at s.code (m.label s.code l) s.frame (Some e) s.stack s.around s.out)
+  pending_exception s l e (Some (object.Exception class args entries fields cause)) = More (at s.code (m.label s.code l) s.frame (Some e) s.stack s.around s.out)
   pending_exception s l e other = undefined s.out
 
   abbrev pub again : State L → ℕ → Value → Stepped (State L)

@@ -143,7 +143,7 @@ module _ (q : Code) (stands : Stands q) (kc : ℕ) (stack : Stack) where
   -- an exception is raised as it stands
   pending_ran : (a : Lay) (ls mid : List Line) (t : NodeState) (base : List ℕ) (s : Machine) (e : ℕ) (x : Option Object) → mstep q s ≡ machine.pending_exception (mm q) (go_at q kc stack ls t base) a.fail e x → EndedAt q kc stack (lay a.fail a.exits mid) s t (node.exception_end e x) (base ++ [])
   pending_ran a ls mid t base s e None st = tt
-  pending_ran a ls mid t base s e (Some (object.Exception class args entries fields)) st =
+  pending_ran a ls mid t base s e (Some (object.Exception class args entries fields cause)) st =
       subst (λ z. C q s (fail_at q kc stack a.fail t e z)) (sym (append-nil base)) (one q _ _ st)
   pending_ran a ls mid t base s e (Some other) st = tt
 

@@ -253,7 +253,7 @@ module _ (l : nodes.L) (blocks : ℕ → tree.Block) (k : ℕ) where
     exception_still x (Some (object.View a b)) = tt
     exception_still x (Some (object.Cell a)) = tt
     exception_still x (Some (object.Space a)) = tt
-    exception_still x (Some (object.Exception a b c d)) = tt
+    exception_still x (Some (object.Exception a b c d e)) = tt
     exception_still x (Some (object.Builtin a b)) = tt
     exception_still x (Some (object.Trace a)) = tt
 

@@ -113,7 +113,7 @@ leave_end zero = Undefined
 leave_end (suc n) = Leave n
 
 abbrev pub exception_end : ℕ → Option Object → End
-exception_end n (Some (object.Exception class args entries fields)) = Raised n
+exception_end n (Some (object.Exception class args entries fields cause)) = Raised n
 exception_end n other = Undefined
 
 -- an exception is raised as it stands; nothing is said of other values

@@ -12,7 +12,7 @@ pub record Thrown : Type 0 where
 
 abbrev pub made_of : ℕ → List Value → List Object → Option Object → Thrown
 made_of n args h (Some (object.Class name base own native)) =
-    record { exception = length h; heap = h ++ object.Exception n args [] [] ∷ [] }
+    record { exception = length h; heap = h ++ object.Exception n args [] [] None ∷ [] }
 made_of n args h other = record { exception = n; heap = h }
 
 -- a new exception of a class, or the exception itself
@@ -20,7 +20,7 @@ abbrev pub exception_made : ℕ → List Value → List Object → Thrown
 exception_made n args h = made_of n args h (slice_get h n)
 
 abbrev pub entered : Entry → Option Object → Option Object
-entered entry (Some (object.Exception class args entries fields)) = Some (object.Exception class args (entry ∷ entries) fields)
+entered entry (Some (object.Exception class args entries fields cause)) = Some (object.Exception class args (entry ∷ entries) fields cause)
 entered entry other = None
 
 abbrev pub put_back : List Object → ℕ → Option Object → List Object
@@ -43,7 +43,7 @@ is_under (suc n) h None base = false
 is_under (suc n) h (Some c) base = nat_eq c base || is_under n h (base_of (slice_get h c)) base
 
 abbrev pub class_of : Option Object → Option ℕ
-class_of (Some (object.Exception class args entries fields)) = Some class
+class_of (Some (object.Exception class args entries fields cause)) = Some class
 class_of other = None
 
 -- the exception of this number is one of a class, or of one under it
@@ -51,5 +51,5 @@ abbrev pub is_kind : List Object → ℕ → ℕ → Bool
 is_kind h e class = is_under (suc (length h)) h (class_of (slice_get h e)) class
 
 abbrev pub entries_of : Option Object → List Entry
-entries_of (Some (object.Exception class args entries fields)) = entries
+entries_of (Some (object.Exception class args entries fields cause)) = entries
 entries_of other = []

@@ -44,7 +44,7 @@ same_end x (Some (object.Iterator a b c d)) = refl
 same_end x (Some (object.View a b)) = refl
 same_end x (Some (object.Cell a)) = refl
 same_end x (Some (object.Space a)) = refl
-same_end x (Some (object.Exception a b c d)) = refl
+same_end x (Some (object.Exception a b c d e)) = refl
 same_end x (Some (object.Builtin a b)) = refl
 same_end x (Some (object.Trace a)) = refl
 

@@ -115,7 +115,7 @@ object_more codes h more g n (object.Iterator over place size over_now) p = in_m
 object_more codes h more g n (object.View dict kind) p = is_a_more h more g dict _ p
 object_more codes h more g n (object.Cell v) p = may_be_more h more g v p
 object_more codes h more g n (object.Space names) p = names_more h more g names p
-object_more codes h more g n (object.Exception class args entries fields) p =
+object_more codes h more g n (object.Exception class args entries fields cause) p =
     (is_a_more h more g class _ p.0, all_more h more g args p.1, names_more h more g fields p.2)
 object_more codes h more g n (object.Builtin name receiver) p = may_be_more h more g receiver p
 object_more codes h more g n (object.Trace exception) p = is_a_more h more g exception _ p

@@ -61,7 +61,7 @@ are_keywords (Some (object.Dict pairs)) = are_texts pairs
 are_keywords other = false
 
 abbrev pub is_exception : Option Object → Bool
-is_exception (Some (object.Exception class args entries fields)) = true
+is_exception (Some (object.Exception class args entries fields cause)) = true
 is_exception other = false
 
 abbrev pub is_of : ArgumentKind → World → Value → Bool

@@ -26,7 +26,7 @@ object_kind h (Some (object.Iterator over place size over_now)) = codes "iterato
 object_kind h (Some (object.View dict kind)) = codes "view"
 object_kind h (Some (object.Cell v)) = codes "cell"
 object_kind h (Some (object.Space names)) = codes "space"
-object_kind h (Some (object.Exception class args entries fields)) = class_name (slice_get h class)
+object_kind h (Some (object.Exception class args entries fields cause)) = class_name (slice_get h class)
 object_kind h (Some (object.Builtin name receiver)) = codes "builtin"
 object_kind h (Some (object.Trace exception)) = codes "traceback"
 

@@ -33,7 +33,7 @@ sort_of (Some (object.Class name base own native)) = AClass
 sort_of (Some (object.Generator code state given cells)) = AGenerator
 sort_of (Some (object.Cell v)) = ACell
 sort_of (Some (object.Space names)) = ASpace
-sort_of (Some (object.Exception class args entries fields)) = AnException
+sort_of (Some (object.Exception class args entries fields cause)) = AnException
 sort_of other = Another
 
 -- the object of this number is there, and of this kind
@@ -81,6 +81,11 @@ BaseIn h number native None = Unit {0}
 BaseIn h number true (Some base) = IsA h base AClass
 BaseIn h number false (Some base) = IsA h base AClass × (base < number)
 
+-- the exception that another was raised from
+abbrev pub CauseIn : List Object → Option ℕ → Type 0
+CauseIn h None = Unit {0}
+CauseIn h (Some cause) = IsA h cause AnException
+
 -- what an object names, in a heap with so many functions in the program
 abbrev pub ObjectIn : ℕ → List Object → ℕ → Object → Type 0
 ObjectIn codes h number (object.Tuple items) = AllIn h items
@@ -96,7 +101,7 @@ ObjectIn codes h number (object.Iterator over place size over_now) = IsIn h over
 ObjectIn codes h number (object.View dict kind) = IsA h dict ADict
 ObjectIn codes h number (object.Cell v) = MayBeIn h v
 ObjectIn codes h number (object.Space names) = NamesIn h names
-ObjectIn codes h number (object.Exception class args entries fields) = IsA h class AClass × AllIn h args × NamesIn h fields
+ObjectIn codes h number (object.Exception class args entries fields cause) = IsA h class AClass × AllIn h args × NamesIn h fields × CauseIn h cause
 ObjectIn codes h number (object.Builtin name receiver) = MayBeIn h receiver
 ObjectIn codes h number (object.Trace exception) = IsA h exception AnException
 

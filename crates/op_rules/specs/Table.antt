@@ -18,7 +18,7 @@ use Rattle.op_rules.specs.CallRows.{call_row}
 abbrev pub object_family : Option Object → Family
 object_family (Some (object.Instance class fields)) = family.Classes
 object_family (Some (object.Class name base own native)) = family.Classes
-object_family (Some (object.Exception class args entries fields)) = family.Classes
+object_family (Some (object.Exception class args entries fields cause)) = family.Classes
 object_family (Some (object.Dict pairs)) = family.Dicts
 object_family (Some (object.View dict kind)) = family.Dicts
 object_family (Some (object.Tuple items)) = family.Sequences

@@ -65,7 +65,7 @@ called w f args other = row op.Call w (value.Obj f ∷ args)
 
 abbrev attribute : World → ℕ → List ℕ → Option Object → Answer
 attribute w o name (Some (object.Generator code state given cells)) = makes w.heap (object.Method (value.Obj o) (if bytes_eq name (codes "send") then 0 else 1))
-attribute w o name (Some (object.Exception class (v ∷ args) entries fields)) = keeps w.heap (opend.Give v)
+attribute w o name (Some (object.Exception class (v ∷ args) entries fields cause)) = keeps w.heap (opend.Give v)
 attribute w o name other = keeps w.heap (opend.Give value.None)
 
 abbrev class_number : List ℕ → ℕ

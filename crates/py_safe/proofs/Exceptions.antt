@@ -27,18 +27,18 @@ use Rattle.py_safe.proofs.Operations.{OpGives, operate_right}
 use Rattle.py_safe.proofs.Names.{There, anything, there_right, there_maybe, both, value_fits}
 
 raised_again : (n : ℕ) (K : Kind) (v : View) (x : ℕ) (o : Option Object) → slice_get v.heap x ≡ o → IsThrown v x → EndIs n K v (again x (class_of o))
-raised_again n K v x (Some (object.Exception class args entries fields)) e a = a
+raised_again n K v x (Some (object.Exception class args entries fields cause)) e a = a
 raised_again n K v x other e a = let b : IsA v.heap x AnException = a.0 in let t : sort_of other ≡ AnException = sym (ap sort_of e) ∙ b.sort in absurd (cc)
 
 exception_is : (o : Option Object) → sort_of o ≡ AnException → is_exception o ≡ true
-exception_is (Some (object.Exception class args entries fields)) e = refl
+exception_is (Some (object.Exception class args entries fields cause)) e = refl
 exception_is other e = absurd (cc)
 
 pub exception_fits : (v : View) (x : ℕ) (w : World) (marks : ℕ → Mark) → Grows v (view w.heap marks) → IsThrown v x → is_of kind.Exception w (value.Obj x) ≡ true
 exception_fits v x w marks g a = let b : IsThrown (view w.heap marks) x = thrown_more v (view w.heap marks) g x a in let c : IsA w.heap x AnException = b.0 in exception_is (slice_get w.heap x) c.sort
 
 error_is : (o : Option Object) → nature_of o ≡ AnError → is_exception o ≡ true
-error_is (Some (object.Exception class args entries fields)) e = refl
+error_is (Some (object.Exception class args entries fields cause)) e = refl
 error_is other e = absurd (cc)
 
 is_error_fits : (h : List Object) (x : Value) → IsOf h AnError x → is_exception (object_of h x) ≡ true

@@ -310,7 +310,7 @@ object_more codes v more g n (object.Iterator over place size over_now) p = in_m
 object_more codes v more g n (object.View dict kind) p = is_a_more v more g dict _ p
 object_more codes v more g n (object.Cell x) p = may_be_in_more v more g x p
 object_more codes v more g n (object.Space names) p = names_more v more g names p
-object_more codes v more g n (object.Exception class args entries fields) p =
+object_more codes v more g n (object.Exception class args entries fields cause) p =
     (is_a_more v more g class _ p.0, all_in_more v more g args p.1, names_more v more g fields p.2)
 object_more codes v more g n (object.Builtin name receiver) p = may_be_in_more v more g receiver p
 object_more codes v more g n (object.Trace exception) p = is_a_more v more g exception _ p
@@ -350,7 +350,7 @@ object_open_more codes v more g n (object.Iterator over place size over_now) p q
 object_open_more codes v more g n (object.View dict kind) p q = g.marks dict p.there ∙ q
 object_open_more codes v more g n (object.Cell x) p q = may_be_open v more g x p q
 object_open_more codes v more g n (object.Space names) p q = names_open_more v more g names p q
-object_open_more codes v more g n (object.Exception class args entries fields) p q =
+object_open_more codes v more g n (object.Exception class args entries fields cause) p q =
     (g.marks class p.0.there ∙ q.0, all_open_more v more g args p.1 q.1, names_open_more v more g fields p.2 q.2)
 object_open_more codes v more g n (object.Builtin name receiver) p q = may_be_open v more g receiver p q
 object_open_more codes v more g n (object.Trace exception) p q = g.marks exception p.there ∙ q

@@ -29,9 +29,9 @@ unchanged c w marks l = record { law = l; grows = grows_refl (view w.heap marks)
 -- ---- an exception gets an entry
 
 put_follows : (c : Roster) (w : World) (marks : ℕ → Mark) → WorldLaw c w marks → (n : ℕ) (entry : Entry) (o : Option Object) → slice_get w.heap n ≡ o → Follows c w marks (put_back w.heap n (entered entry o))
-put_follows c w marks l n entry (Some (object.Exception class args entries fields)) e =
-    let y : Object = object.Exception class args entries fields in
-    let x : Object = object.Exception class args (entry ∷ entries) fields in
+put_follows c w marks l n entry (Some (object.Exception class args entries fields cause)) e =
+    let y : Object = object.Exception class args entries fields cause in
+    let x : Object = object.Exception class args (entry ∷ entries) fields cause in
     let there : n < length w.heap = slice_get_within w.heap n y e in
     let a : IsA w.heap n AnException = record { there = there; sort = ap sort_of e } in
     let behind : length native_classes ≤ n = no_native (length w.codes) w.heap l.sound.heap n AnException a (λ f. absurd (cc)) in
@@ -53,9 +53,9 @@ pub record Throws (c : Roster) (w : World) (marks : ℕ → Mark) (t : Thrown) :
   pub follows : Follows c w marks t.heap
   pub is : IsThrown (view t.heap marks) t.exception
 
-new_exception : (c : Roster) (w : World) (marks : ℕ → Mark) → WorldLaw c w marks → (n : ℕ) (args : List Value) → IsA w.heap n AClass → marks n ≡ Open → AllThere (view w.heap marks) args → Throws c w marks (record { exception = length w.heap; heap = w.heap ++ object.Exception n args [] [] ∷ [] })
+new_exception : (c : Roster) (w : World) (marks : ℕ → Mark) → WorldLaw c w marks → (n : ℕ) (args : List Value) → IsA w.heap n AClass → marks n ≡ Open → AllThere (view w.heap marks) args → Throws c w marks (record { exception = length w.heap; heap = w.heap ++ object.Exception n args [] [] None ∷ [] })
 new_exception c w marks l n args a m p =
-    let x : Object = object.Exception n args [] [] in
+    let x : Object = object.Exception n args [] [] None in
     record {
       follows = record {
         law = world_end c w marks l x (a, all_in (view w.heap marks) args p, tt) (m, all_open (view w.heap marks) args p, tt) tt;

@@ -485,7 +485,7 @@ object_unmarked (object.Iterator over place size over_now) = value_unmarked over
 object_unmarked (object.View dict kind) = refl
 object_unmarked (object.Cell v) = value_unmarked v
 object_unmarked (object.Space names) = names_unmarked names
-object_unmarked (object.Exception class args entries fields) = (refl, all_unmarked args, names_unmarked fields)
+object_unmarked (object.Exception class args entries fields cause) = (refl, all_unmarked args, names_unmarked fields)
 object_unmarked (object.Builtin name receiver) = value_unmarked receiver
 object_unmarked (object.Trace exception) = refl
 

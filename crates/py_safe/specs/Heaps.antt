@@ -50,7 +50,7 @@ nature_of (Some (object.Class name base own native)) = AClass
 nature_of (Some (object.Generator code state given cells)) = AGenerator code
 nature_of (Some (object.Cell v)) = ACell
 nature_of (Some (object.Space names)) = ASpace
-nature_of (Some (object.Exception class args entries fields)) = AnError
+nature_of (Some (object.Exception class args entries fields cause)) = AnError
 nature_of other = Another
 
 -- every object is still there, with its nature and its mark
@@ -95,7 +95,7 @@ ObjectOpen marks (object.Iterator over place size over_now) = IsOpen marks over
 ObjectOpen marks (object.View dict kind) = marks dict ≡ Open
 ObjectOpen marks (object.Cell v) = IsOpen marks v
 ObjectOpen marks (object.Space names) = NamesOpen marks names
-ObjectOpen marks (object.Exception class args entries fields) = (marks class ≡ Open) × AllOpen marks args × NamesOpen marks fields
+ObjectOpen marks (object.Exception class args entries fields cause) = (marks class ≡ Open) × AllOpen marks args × NamesOpen marks fields
 ObjectOpen marks (object.Builtin name receiver) = IsOpen marks receiver
 ObjectOpen marks (object.Trace exception) = marks exception ≡ Open
 
