@@ -100,6 +100,10 @@ base_more h more g n native None p = tt
 base_more h more g n true (Some b) p = is_a_more h more g b _ p
 base_more h more g n false (Some b) p = (is_a_more h more g b _ p.0, p.1)
 
+cause_more : (h more : List Object) → Grows h more → (c : Option ℕ) → CauseIn h c → CauseIn more c
+cause_more h more g None p = p
+cause_more h more g (Some e) p = is_a_more h more g e _ p
+
 object_more : (codes : ℕ) (h more : List Object) → Grows h more → (n : ℕ) (o : Object) → ObjectIn codes h n o → ObjectIn codes more n o
 object_more codes h more g n (object.Tuple items) p = all_more h more g items p
 object_more codes h more g n (object.List items) p = all_more h more g items p
@@ -116,7 +120,7 @@ object_more codes h more g n (object.View dict kind) p = is_a_more h more g dict
 object_more codes h more g n (object.Cell v) p = may_be_more h more g v p
 object_more codes h more g n (object.Space names) p = names_more h more g names p
 object_more codes h more g n (object.Exception class args entries fields cause) p =
-    (is_a_more h more g class _ p.0, all_more h more g args p.1, names_more h more g fields p.2)
+    (is_a_more h more g class _ p.0, all_more h more g args p.1, names_more h more g fields p.2, cause_more h more g cause p.3)
 object_more codes h more g n (object.Builtin name receiver) p = may_be_more h more g receiver p
 object_more codes h more g n (object.Trace exception) p = is_a_more h more g exception _ p
 

@@ -95,7 +95,7 @@ ObjectOpen marks (object.Iterator over place size over_now) = IsOpen marks over
 ObjectOpen marks (object.View dict kind) = marks dict ≡ Open
 ObjectOpen marks (object.Cell v) = IsOpen marks v
 ObjectOpen marks (object.Space names) = NamesOpen marks names
-ObjectOpen marks (object.Exception class args entries fields cause) = (marks class ≡ Open) × AllOpen marks args × NamesOpen marks fields
+ObjectOpen marks (object.Exception class args entries fields cause) = (marks class ≡ Open) × AllOpen marks args × NamesOpen marks fields × BaseOpen marks cause
 ObjectOpen marks (object.Builtin name receiver) = IsOpen marks receiver
 ObjectOpen marks (object.Trace exception) = marks exception ≡ Open
 
