@@ -6,8 +6,8 @@ use Rattle.std.proofs.lemmas.List.{length-map}
 use Rattle.std.specs.List.{AllByRecursion, flat_map}
 use Rattle.nu_value.specs.declared.header.Header.{Header}
 use Rattle.nu_value.specs.declared.header.ParamKind.{ParamKind}
-use Rattle.op_rules.specs.declared.constant.Const.TheVariants as const
-use Rattle.op_rules.specs.Signature.{arguments, further}
+use Rattle.op_forms.specs.declared.constant.Const.TheVariants as const
+use Rattle.op_forms.specs.Signature.{arguments, further}
 use Rattle.op_rules.specs.Table.{is_there}
 use Rattle.flow_code.specs.declared.cut.CutFunction.{CutFunction}
 use Rattle.flow_code.specs.declared.cut.CutScript.{CutScript}

@@ -1,8 +1,8 @@
 -- When a program does what cut code does, and what it keeps of it.
 use Rattle.std.specs.Prelude.{ℕ, ◌+◌, List, [], ◌∷◌, ◌≡◌, length, map, Bool}
 use Rattle.nu_run.specs.Runs.{IsDefined, Same}
-use Rattle.nu_calls.specs.Rules.{Rules}
-use Rattle.op_rules.specs.declared.op.Op.{Op}
+use Rattle.op_forms.specs.Rules.{Rules}
+use Rattle.op_forms.specs.declared.op.Op.{Op}
 use Rattle.flow_code.specs.declared.cut.CutFunction.{CutFunction}
 use Rattle.flow_code.specs.declared.cut.CutScript.{CutScript}
 use Rattle.flow_code.specs.Contents as cut

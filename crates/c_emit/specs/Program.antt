@@ -1,7 +1,7 @@
 -- The C program of cut code: each statement in its form, with its registers, its labels by number and its lines in order.
 use Rattle.std.specs.Prelude.{◌-◌, length, map, true, false}
-use Rattle.op_rules.specs.declared.constant.Const.{Const}
-use Rattle.op_rules.specs.declared.constant.Const.TheVariants as const
+use Rattle.op_forms.specs.declared.constant.Const.{Const}
+use Rattle.op_forms.specs.declared.constant.Const.TheVariants as const
 use Rattle.flow_code.specs.declared.cut.CutFunction.{CutFunction}
 use Rattle.flow_code.specs.declared.cut.CutScript.{CutScript}
 use Rattle.flow_code.specs.declared.statement.Argument.{Argument as CutArgument}

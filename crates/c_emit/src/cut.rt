@@ -10,7 +10,7 @@ ghost use Rattle.c_emit.specs.Fits.{StatementFits, LineFits, FunctionFits, Progr
 use crate::copies::{arguments, header, operand, text};
 use c_meaning::{CProgram, Function, Line, Statement, Stored};
 use flow_code::{CutFunction, CutScript};
-use op_rules::Op;
+use op_forms::Op;
 use sqlite_items::Items;
 use std::alloc::{AllocError, Global};
 

@@ -1,9 +1,9 @@
 -- What cut code keeps of flat code.
 use Rattle.std.specs.Prelude.{ℕ, List, [], ◌∷◌, ◌≡◌, map, Bool}
 use Rattle.nu_run.specs.Runs.{IsDefined, Same}
-use Rattle.op_rules.specs.declared.constant.Const.{Const}
-use Rattle.op_rules.specs.declared.op.Op.{Op}
-use Rattle.nu_calls.specs.Rules.{Rules}
+use Rattle.op_forms.specs.declared.constant.Const.{Const}
+use Rattle.op_forms.specs.declared.op.Op.{Op}
+use Rattle.op_forms.specs.Rules.{Rules}
 use Rattle.flow_code.specs.declared.cut.CutFunction.{CutFunction}
 use Rattle.flow_code.specs.declared.cut.CutScript.{CutScript}
 use Rattle.flow_code.specs.declared.function.FlatFunction.{FlatFunction}

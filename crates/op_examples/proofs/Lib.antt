@@ -1,0 +1,5 @@
+mod Calls
+mod Lowered
+mod Nodes
+mod Statements
+mod Texts
