@@ -1,15 +1,11 @@
 -- Keys stay distinct, and what is known of pairs stays so, where a key gets a value.
-use Rattle.std.proofs.Common.{◌≡◌, ℕ, zero, suc, ◌+◌, ◌≤◌, List, [], ◌∷◌, ◌++◌, Option, Some, None, Bool, true, false, refl, sym, ap, subst, ◌∙◌, arith, length, nat_lt, nat_eq, add-one}
-use Rattle.std.specs.Prelude.{ℤ, ◌&&◌, slice_get, slice_set, if◌then◌else◌}
-use Rattle.std.specs.Ordering.{int_eq}
-use Rattle.std.specs.Str.{bytes_eq}
+use Rattle.std.proofs.Common.{◌≡◌, ℕ, zero, suc, ◌+◌, ◌≤◌, List, [], ◌∷◌, ◌++◌, Option, Some, None, Bool, true, false, refl, sym, ap, subst, ◌∙◌, arith, length, nat_lt, add-one}
+use Rattle.std.specs.Prelude.{slice_get, slice_set, if◌then◌else◌}
 use Rattle.std.proofs.Math.ListN.{length-set}
-use Rattle.std.proofs.lemmas.Slice.Eq.{bytes_eq-Decides}
 use Rattle.std.proofs.lemmas.Bool.Decides.{nat_tests}
 use Rattle.nu_value.specs.declared.key.Atom.{Atom}
-use Rattle.nu_value.specs.declared.key.Atom.TheVariants as atom
 use Rattle.nu_value.specs.declared.value.Value.{Value}
-use Rattle.nu_value.specs.Pairs.{PairList, atom_eq, key_eq, key_place, mapped_at, with_pair}
+use Rattle.nu_value.specs.Pairs.{PairList, key_eq, key_place, mapped_at, with_pair}
 use Rattle.op_forms.specs.Parts.{PairsOf}
 use Rattle.op_forms.specs.Sound.{AreKeysDistinct}
 use Rattle.op_forms.proofs.Identity.{key_refl as key_self, key_is as key_same}

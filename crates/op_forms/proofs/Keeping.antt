@@ -20,7 +20,7 @@ use Rattle.op_forms.specs.Answers.{after}
 use Rattle.op_forms.specs.Doing.{Change, Fill, Bind, Unbind, Hold, Move, Finish, Put, Fit, Doing, changed_by, put_at, set_in, heap_after, answer}
 use Rattle.op_forms.specs.Laws.{DoingsKeepSound}
 use Rattle.op_forms.specs.Parts.{PartsOf}
-use Rattle.op_forms.specs.Right.{Grows, Claim, within, IsPlainValue, Known, Closed, AfterOf, HowOf, EndOf, ChangeOf, SetOf, NewOf, MadeOf, Uses, News, Right}
+use Rattle.op_forms.specs.Right.{Grows, Claim, within, IsPlainValue, Known, Closed, AfterOf, HowOf, EndOf, ChangeOf, SetOf, NewOf, MadeOf, Uses, News}
 use Rattle.op_forms.specs.Sound.{AClass, sort_of, IsA, IsIn, LinksIn, ObjectIn, SoundHeap, Sound, AfterIn, HowIn, EndIn}
 use Rattle.op_forms.proofs.Grown.{set_cases, set_other, set_same, grown_length, grown_before, grown_either}
 use Rattle.op_forms.proofs.Objects.{parts_by, changed_parts, changed_links, changed_sort, is_a_more, in_more, links_more, object_more}
