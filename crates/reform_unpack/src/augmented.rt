@@ -56,10 +56,13 @@ pub fn augment(
     } = right;
     let last = argument(alloc, second)?;
     let read = target(alloc, &place, temps)?;
-    let to = temps.fresh()?;
-    let Part { block: first, value } = read;
+    let Part {
+        block: first,
+        value,
+    } = read;
     let mut args = argument(alloc, value)?;
     args.append(last)?;
+    let to = temps.fresh()?;
     let operands = joined(first, then)?;
     let asked = ended(operands, Node::Do { to, line, op, args })?;
     let stored = assign(alloc, Operand::Temp(to), place, temps)?;
