@@ -1,12 +1,11 @@
 -- What cut code is that has a C text. The causes for which a text is no program's are named, but for those that `WellFormed`
 -- (flow_code) excludes and for numbers and texts that no value of their type is.
-use Rattle.std.specs.Prelude.{◌≡◌, ◌≢◌, ℕ, ◌<◌, ◌≤◌, List, [], length, map, Bool, true, false, ◌&&◌, not}
+use Rattle.std.specs.Prelude.{◌≡◌, ◌≢◌, ℕ, ◌<◌, ◌≤◌, List, [], length, map, Bool, true, false, not}
 use Rattle.std.specs.List.{AllByRecursion}
 use Rattle.nu_value.specs.declared.header.Header.{Header}
 use Rattle.nu_value.specs.declared.header.ParamKind.{ParamKind}
 use Rattle.op_rules.specs.declared.op.Op.{Op}
 use Rattle.op_rules.specs.Signature.{arguments, further}
-use Rattle.op_rules.specs.Table.{is_there}
 use Rattle.flow_code.specs.declared.cut.CutScript.{CutScript}
 use Rattle.flow_code.specs.declared.statement.Argument.{Argument}
 use Rattle.flow_code.specs.declared.statement.Line.{Line}
@@ -29,13 +28,11 @@ pub record IsNamed (p : ParamKind × List ℕ) : Type 0 where
 pub record IsHeading (h : Header) : Type 0 where
   pub params : AllByRecursion IsNamed h.params
   pub order : in_order 0 h.params ≡ true
-  -- generators are not C yet
-  pub kind : h.generator ≡ false
   pub from_one : 0 < h.line
 
--- whether the row of an operation stands and takes such arguments
+-- whether an operation takes such arguments
 abbrev pub is_taken : Op → List Argument → Bool
-is_taken o args = is_there o && all_taken (arguments o) (further o) (map argument_of args)
+is_taken o args = all_taken (arguments o) (further o) (map argument_of args)
 
 -- how many operations stand that no C text has
 abbrev pub refused : List Line → ℕ
