@@ -144,8 +144,12 @@ fn body(alloc: Global, text: &[u8], registers: u64) -> Result<(Items<Line>, &[u8
         let Some((one, behind)) = line(alloc, left, registers)? else {
             return Err(Miss::NotC { left: left.len() });
         };
-        let new = is_new(&mut labels, &one)?;
+        let Ok(new) = is_new(&mut labels, &one) else {
+            drop(one);
+            return Err(Miss::Memory);
+        };
         if !new {
+            drop(one);
             return Err(Miss::NotC { left: left.len() });
         }
         lines.push(one)?;
