@@ -3,7 +3,7 @@
 ghost use Rattle.std.specs.Prelude.{◌≡◌, ℕ, List, [], ◌∷◌, ◌++◌, OnOk, codes, decimal, string_bytes};
 ghost use Rattle.std.specs.List.{flat_map};
 ghost use Rattle.nu_text.specs.Pieces.{joined};
-ghost use Rattle.op_rules.specs.Names.{op_name};
+ghost use Rattle.op_forms.specs.Names.{op_name};
 ghost use Rattle.c_meaning.specs.declared.program.Operand.TheVariants as operand;
 ghost use Rattle.c_meaning.specs.declared.program.Statement.TheVariants as statement;
 ghost use Rattle.c_meaning.specs.declared.program.Stored.TheVariants as stored;
@@ -11,7 +11,7 @@ ghost use Rattle.c_meaning.specs.Text.{numbered, operand_text, argument_text, fa
 
 use crate::pieces::{push_form, push_string};
 use c_meaning::{Argument, Line, Operand, Statement, Stored};
-use op_rules::Op;
+use op_forms::Op;
 use std::alloc::AllocError;
 
 fn push_operand(text: &mut String, operand: &Operand) -> Result<(), AllocError>

@@ -13,18 +13,19 @@ use Rattle.nu_value.specs.Names.{value_at}
 use Rattle.nu_value.specs.declared.same.Sameness.TheVariants as same
 use Rattle.nu_value.specs.Same.{identical, verdict}
 use Rattle.op_rules.specs.Comparisons.{eq_row, ne_row, give_bool, same_end}
-use Rattle.op_rules.specs.declared.end.OpEnd.{OpEnd}
-use Rattle.op_rules.specs.declared.end.OpEnd.TheVariants as opend
-use Rattle.op_rules.specs.declared.op.Op.{Op}
-use Rattle.op_rules.specs.declared.op.Op.TheVariants as op
-use Rattle.op_rules.specs.declared.world.World.{World}
-use Rattle.op_rules.specs.Fits.{fits, is_in}
+use Rattle.op_forms.specs.declared.end.OpEnd.{OpEnd}
+use Rattle.op_forms.specs.declared.end.OpEnd.TheVariants as opend
+use Rattle.op_forms.specs.declared.op.Op.{Op}
+use Rattle.op_forms.specs.declared.op.Op.TheVariants as op
+use Rattle.op_forms.specs.declared.world.World.{World}
+use Rattle.op_forms.specs.Fits.{fits, is_in}
 use Rattle.op_rules.specs.IntRows.{int_row}
-use Rattle.op_rules.specs.NameRows.{Answer, keeps, names_of, not_defined, value_or, with_binding, altered}
-use Rattle.op_rules.specs.Signature.{arguments, further}
-use Rattle.op_rules.specs.declared.signature.ArgumentKind.TheVariants as kind
+use Rattle.op_forms.specs.Answers.{Answer, keeps, names_of}
+use Rattle.op_rules.specs.NameRows.{not_defined, value_or, with_binding, altered}
+use Rattle.op_forms.specs.Signature.{arguments, further}
+use Rattle.op_forms.specs.declared.signature.ArgumentKind.TheVariants as kind
 use Rattle.op_rules.specs.Table.{row}
-use Rattle.nu_calls.specs.Rules.{table_rules}
+use Rattle.op_rules.specs.TableRules.{table_rules}
 use Rattle.nu_calls.specs.Surroundings.{scene}
 use Rattle.nu_calls.specs.Ends.{begun_by}
 use Rattle.c_meaning.specs.declared.code.Code.{Code}

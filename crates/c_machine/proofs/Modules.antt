@@ -8,7 +8,8 @@ use Rattle.nu_value.specs.declared.object.Object.{Object}
 use Rattle.nu_value.specs.declared.object.Object.TheVariants as object
 use Rattle.nu_value.specs.declared.value.Value.{Value}
 use Rattle.nu_value.specs.declared.value.Value.TheVariants as value
-use Rattle.nu_calls.specs.Rules.{Rules, table_rules}
+use Rattle.op_forms.specs.Rules.{Rules}
+use Rattle.op_rules.specs.TableRules.{table_rules}
 use Rattle.nu_calls.specs.Traceback.{tail_text}
 use Rattle.c_meaning.specs.declared.code.Code.{Code}
 use Rattle.c_meaning.specs.declared.state.Activation.{Activation}

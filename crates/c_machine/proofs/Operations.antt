@@ -3,12 +3,12 @@ use Rattle.std.proofs.Common.{◌≡◌, List, Option, Some, None, Bool, true, f
 use Rattle.std.specs.Prelude.{if◌then◌else◌}
 use Rattle.std.specs.Option.{option_map}
 use Rattle.nu_value.specs.declared.value.Value.{Value}
-use Rattle.op_rules.specs.declared.end.OpEnd.{OpEnd}
-use Rattle.op_rules.specs.declared.op.Op.{Op}
-use Rattle.op_rules.specs.Fits.{fits}
-use Rattle.op_rules.specs.NameRows.{Answer}
+use Rattle.op_forms.specs.declared.end.OpEnd.{OpEnd}
+use Rattle.op_forms.specs.declared.op.Op.{Op}
+use Rattle.op_forms.specs.Fits.{fits}
+use Rattle.op_forms.specs.Answers.{Answer}
 use Rattle.op_rules.specs.Table.{row}
-use Rattle.nu_calls.specs.Rules.{table_rules}
+use Rattle.op_rules.specs.TableRules.{table_rules}
 use Rattle.nu_calls.specs.Surroundings.{scene}
 use Rattle.nu_calls.specs.Ends.{begun, begun_by}
 use Rattle.c_meaning.specs.declared.code.Code.{Code}

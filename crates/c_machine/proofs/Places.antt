@@ -9,11 +9,12 @@ use Rattle.nu_value.specs.declared.object.Object.{Object}
 use Rattle.nu_value.specs.declared.object.Object.TheVariants as object
 use Rattle.nu_value.specs.declared.value.Value.{Value}
 use Rattle.nu_value.specs.Names.{NameList, place_of, with_name, with_value}
-use Rattle.op_rules.specs.NameRows.{names_of, with_binding}
+use Rattle.op_forms.specs.Answers.{names_of}
+use Rattle.op_rules.specs.NameRows.{with_binding}
 use Rattle.c_machine.specs.declared.execution.Execution.{Execution}
 use Rattle.c_machine.specs.declared.lookup.Hint.{Hint}
 use Rattle.c_machine.specs.InPlace.{behind, bound_in}
-use Rattle.op_rules.specs.declared.world.World.{World}
+use Rattle.op_forms.specs.declared.world.World.{World}
 use Rattle.c_meaning.specs.declared.code.Placed.{Placed}
 use Rattle.c_meaning.specs.declared.program.Argument.{Argument}
 use Rattle.c_machine.specs.Places.{Keeps, Right, StayIn, Stays, looked_up, module_names}

@@ -12,12 +12,12 @@ use Rattle.nu_value.specs.declared.value.Value.TheVariants as value
 use Rattle.nu_value.specs.Same.{eq, number_of}
 use Rattle.op_rules.specs.declared.arithmetic.Computed.{Computed}
 use Rattle.op_rules.specs.declared.arithmetic.Computed.TheVariants as computed
-use Rattle.op_rules.specs.declared.end.OpEnd.{OpEnd}
-use Rattle.op_rules.specs.declared.end.OpEnd.TheVariants as opend
+use Rattle.op_forms.specs.declared.end.OpEnd.{OpEnd}
+use Rattle.op_forms.specs.declared.end.OpEnd.TheVariants as opend
 use Rattle.op_rules.specs.declared.family.Family.{Family}
 use Rattle.op_rules.specs.declared.family.Family.TheVariants as family
-use Rattle.op_rules.specs.declared.op.Op.{Op}
-use Rattle.op_rules.specs.declared.op.Op.TheVariants as op
+use Rattle.op_forms.specs.declared.op.Op.{Op}
+use Rattle.op_forms.specs.declared.op.Op.TheVariants as op
 use Rattle.op_rules.specs.Numbers.{int_op, unary_op, computed_end}
 use Rattle.op_rules.specs.Comparisons.{same_end, not_row, truth_row, object_truth}
 use Rattle.op_rules.specs.IntRows.{of_one, of_two, on_number, on_numbers, bool_op, bool_or, number_pair, number_order, number_one, int_row}
@@ -25,8 +25,9 @@ use Rattle.nu_text.specs.Characters.{characters}
 use Rattle.op_rules.specs.TextRows.{sized, size_limit, repeated_by, copy_count, copies, text_add, text_mul, text_mod, text_pair, text_operation, on_texts, text_order, text_row}
 use Rattle.op_rules.specs.CallRows.{text_of, printed, print_row, call_object, call_value, call_row}
 use Rattle.op_rules.specs.Table.{family_row, family_of, by_family}
-use Rattle.op_rules.specs.declared.world.World.{World}
-use Rattle.op_rules.specs.NameRows.{Answer, setglobal_row, value_or, altered, forgotten, delglobal_row, names_of, set_or, cell_row, held_by, filled, emptied, cellset_row, celldel_row, freedel_row, no_local, no_free, named, of_name, of_name_value, of_value_name, of_none, of_two_values}
+use Rattle.op_forms.specs.declared.world.World.{World}
+use Rattle.op_forms.specs.Answers.{Answer, names_of}
+use Rattle.op_rules.specs.NameRows.{setglobal_row, value_or, altered, forgotten, delglobal_row, set_or, cell_row, held_by, filled, emptied, cellset_row, celldel_row, freedel_row, no_local, no_free, named, of_name, of_name_value, of_value_name, of_none, of_two_values}
 use Rattle.op_rules.specs.Table.{row}
 use Rattle.nu_value.specs.Names.{value_at}
 use Rattle.c_machine.specs.Simple.{IsSimple}

@@ -6,7 +6,7 @@ use Rattle.nu_run.specs.declared.End.{End}
 use Rattle.nu_run.specs.Runs.{Going, Ended, printed_by, IsPrefix}
 use Rattle.nu_run.specs.Steps.{Stepped, More, Halt, on_step, run, Grew}
 use Rattle.nu_run.proofs.Runs.{prefix_trans}
-use Rattle.nu_calls.specs.Rules.{table_rules}
+use Rattle.op_rules.specs.TableRules.{table_rules}
 use Rattle.c_meaning.specs.declared.code.Code.{Code}
 use Rattle.c_meaning.specs.State.{State, printed_in}
 use Rattle.c_meaning.specs.Step.{step}

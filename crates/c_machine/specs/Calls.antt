@@ -4,7 +4,7 @@ use Rattle.nu_base.specs.Outside.{Adds, AddsFront, Faulted}
 use Rattle.nu_run.specs.declared.End.{End}
 use Rattle.nu_run.specs.Runs.{Run, Going, Ended, printed_by}
 use Rattle.nu_run.specs.Steps.{Stepped, More, Halt}
-use Rattle.nu_calls.specs.Rules.{table_rules}
+use Rattle.op_rules.specs.TableRules.{table_rules}
 use Rattle.c_meaning.specs.declared.code.Code.{Code}
 use Rattle.c_meaning.specs.State.{State, printed_in}
 use Rattle.c_meaning.specs.Step.{step}

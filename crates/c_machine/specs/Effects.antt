@@ -5,13 +5,13 @@ use Rattle.nu_value.specs.declared.entries.Entry.{Entry}
 use Rattle.nu_value.specs.declared.object.Object.{Object}
 use Rattle.nu_value.specs.declared.object.Object.TheVariants as object
 use Rattle.nu_value.specs.declared.value.Value.{Value}
-use Rattle.op_rules.specs.declared.op.Op.{Op}
-use Rattle.op_rules.specs.declared.world.World.{World}
-use Rattle.op_rules.specs.Fits.{fits}
-use Rattle.op_rules.specs.Laws.{after}
-use Rattle.op_rules.specs.NameRows.{Answer}
+use Rattle.op_forms.specs.declared.op.Op.{Op}
+use Rattle.op_forms.specs.declared.world.World.{World}
+use Rattle.op_forms.specs.Fits.{fits}
+use Rattle.op_forms.specs.Answers.{after}
+use Rattle.op_forms.specs.Answers.{Answer}
 use Rattle.op_rules.specs.Table.{row}
-use Rattle.nu_calls.specs.Rules.{table_rules}
+use Rattle.op_rules.specs.TableRules.{table_rules}
 use Rattle.nu_calls.specs.Surroundings.{scene}
 use Rattle.nu_calls.specs.Ends.{begun_by}
 use Rattle.c_meaning.specs.declared.code.Code.{Code}

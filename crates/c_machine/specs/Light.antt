@@ -8,7 +8,7 @@ use Rattle.c_meaning.specs.declared.program.Statement.TheVariants as statement
 use Rattle.c_meaning.specs.declared.code.Placed.{Placed}
 use Rattle.c_meaning.specs.declared.code.Code.{Code}
 use Rattle.c_meaning.specs.Step.{held, step}
-use Rattle.nu_calls.specs.Rules.{table_rules}
+use Rattle.op_rules.specs.TableRules.{table_rules}
 use Rattle.nu_run.specs.Steps.{More}
 use Rattle.c_machine.specs.declared.execution.Execution.{Execution}
 use Rattle.c_machine.specs.Effects.{placed_for}

@@ -3,7 +3,7 @@ use Rattle.std.specs.Prelude.{◌≡◌, ℕ, List, [], Bool, true, false, Optio
 use Rattle.nu_run.specs.declared.End.{End}
 use Rattle.nu_run.specs.Runs.{Run}
 use Rattle.nu_run.specs.Steps.{on_step, run}
-use Rattle.nu_calls.specs.Rules.{table_rules}
+use Rattle.op_rules.specs.TableRules.{table_rules}
 use Rattle.c_meaning.specs.declared.code.Code.{Code}
 use Rattle.c_meaning.specs.declared.program.CProgram as program
 use Rattle.c_meaning.specs.Code.{code_of}

@@ -1,10 +1,10 @@
 -- Where statements that look a name up or bind it find it among the names of the module.
 use Rattle.std.specs.Prelude.{◌≡◌, ℕ, ◌+◌, ◌<◌, List, [], ◌∷◌, Option, Some, None, length, slice_get}
 use Rattle.nu_value.specs.Names.{NameList, place_of}
-use Rattle.op_rules.specs.declared.op.Op.{Op}
-use Rattle.op_rules.specs.declared.op.Op.TheVariants as op
-use Rattle.op_rules.specs.declared.world.World.{World}
-use Rattle.op_rules.specs.NameRows.{names_of}
+use Rattle.op_forms.specs.declared.op.Op.{Op}
+use Rattle.op_forms.specs.declared.op.Op.TheVariants as op
+use Rattle.op_forms.specs.declared.world.World.{World}
+use Rattle.op_forms.specs.Answers.{names_of}
 use Rattle.c_meaning.specs.declared.program.Argument.{Argument}
 use Rattle.c_meaning.specs.declared.program.Argument.TheVariants as argument
 use Rattle.c_meaning.specs.declared.program.Statement.{Statement}

@@ -1,6 +1,6 @@
 -- Which ends of operations there are so far.
-use Rattle.op_rules.specs.declared.end.OpEnd.{OpEnd}
-use Rattle.op_rules.specs.declared.end.OpEnd.TheVariants as opend
+use Rattle.op_forms.specs.declared.end.OpEnd.{OpEnd}
+use Rattle.op_forms.specs.declared.end.OpEnd.TheVariants as opend
 
 -- no function is asked, no generator is resumed, and no line is read
 abbrev pub IsSimple : OpEnd → Type 0

@@ -3,8 +3,9 @@
 ghost use Rattle.std.specs.Prelude.{◌≡◌, ◌+◌, ◌<◌, ◌^◌, ℕ, List, Some, true, false, slice_get};
 ghost use Rattle.nu_value.specs.declared.value.Value.TheVariants as value;
 ghost use Rattle.nu_value.specs.Names.{place_of};
-ghost use Rattle.op_rules.specs.declared.op.Op.TheVariants as op;
-ghost use Rattle.op_rules.specs.NameRows.{names_of, with_binding};
+ghost use Rattle.op_forms.specs.declared.op.Op.TheVariants as op;
+ghost use Rattle.op_forms.specs.Answers.{names_of};
+ghost use Rattle.op_rules.specs.NameRows.{with_binding};
 ghost use Rattle.c_meaning.specs.Step as meaning;
 ghost use Rattle.c_machine.specs.Effects.{answered};
 ghost use Rattle.c_machine.specs.Places.{Keeps, Right, StayIn, asked, module_names};

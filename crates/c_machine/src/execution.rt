@@ -1,7 +1,7 @@
 //! Where a run stands, and what its statements do to it.
 
 ghost use Rattle.std.specs.Prelude.{◌≡◌, ◌+◌, ◌<◌, ◌^◌, None, Some, IfOk, IfSome, OnSome, OnOk, IsOk, Option, ℕ, option_copied, slice_get, slice_set, replicate, false, true};
-ghost use Rattle.nu_calls.specs.Rules.{table_rules};
+ghost use Rattle.op_rules.specs.TableRules.{table_rules};
 ghost use Rattle.nu_value.specs.declared.value.Value.TheVariants as value;
 ghost use Rattle.nu_value.specs.View.{is_text};
 ghost use Rattle.c_meaning.specs.declared.code.Code as code;

@@ -3,7 +3,7 @@
 ghost use Rattle.std.specs.Prelude.{◌≡◌, ◌+◌, ◌<◌, ◌^◌, Some, true, false, drop, length, slice_get, option_copied, option_map};
 ghost use Rattle.std.specs.Option.{option_or};
 ghost use Rattle.nu_value.specs.Names.{place_of, value_at};
-ghost use Rattle.op_rules.specs.NameRows.{names_of};
+ghost use Rattle.op_forms.specs.Answers.{names_of};
 ghost use Rattle.c_machine.specs.Places.{Keeps, Right, module_names};
 
 use nu_value::{Heap, Names, Object, Value};

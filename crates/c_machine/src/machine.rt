@@ -3,7 +3,7 @@
 ghost use Rattle.std.specs.Prelude.{◌≡◌, ◌≢◌, ◌↔◌, ◌≤◌, ℕ, List, None, IfOk, IfSome, OnOk, OnErr, IsOk, IsTrue, false, true, is_err};
 ghost use Rattle.std.specs.Option.{option_copied};
 ghost use Rattle.c_meaning.specs.declared.program.CProgram as program;
-ghost use Rattle.nu_calls.specs.Rules.{table_rules};
+ghost use Rattle.op_rules.specs.TableRules.{table_rules};
 ghost use Rattle.nu_run.specs.Steps.{More};
 ghost use Rattle.c_meaning.specs.State.{printed_in};
 ghost use Rattle.c_meaning.specs.Step.{step};

@@ -2,11 +2,11 @@
 
 ghost use Rattle.std.specs.Prelude.{◌≡◌, ◌+◌, ◌<◌, ◌^◌, [], IfOk, IfSome, OnOk, ℕ, List, slice_get, slice_set, length, true};
 ghost use Rattle.std.specs.Option.{option_map};
-ghost use Rattle.nu_calls.specs.Rules.{table_rules};
+ghost use Rattle.op_rules.specs.TableRules.{table_rules};
 ghost use Rattle.nu_calls.specs.Surroundings as surroundings;
 ghost use Rattle.nu_calls.specs.Exceptions as exceptions;
 ghost use Rattle.nu_calls.specs.Ends as ends;
-ghost use Rattle.op_rules.specs.declared.end.OpEnd.TheVariants as opend;
+ghost use Rattle.op_forms.specs.declared.end.OpEnd.TheVariants as opend;
 ghost use Rattle.c_meaning.specs.Step as meaning;
 ghost use Rattle.c_machine.specs.Standing.{Outside, state_of, follows, printing};
 ghost use Rattle.c_machine.specs.Simple.{IsSimple};
@@ -19,7 +19,7 @@ use crate::execution::{Execution, held};
 use c_meaning::{Argument, CEnd, Code};
 use nu_base::{PutTrouble, Sink};
 use nu_value::{Entries, Entry, Heap, Items, Names, Object, Slots, Value};
-use op_rules::{Op, OpEnd};
+use op_forms::{Op, OpEnd};
 use runtime_table::{apply, fits};
 use std::alloc::{AllocError, Global};
 

@@ -1,8 +1,8 @@
 //! Statements that are taken in place: operations without the table, and only where the run goes on.
 
 ghost use Rattle.std.specs.Prelude.{◌≡◌, ◌+◌, ◌<◌, ◌≤◌, ◌^◌, [], ℕ, List, Option, OnSome, Some, None, true, false, slice_get, option_copied};
-ghost use Rattle.op_rules.specs.declared.op.Op.TheVariants as op;
-ghost use Rattle.nu_calls.specs.Rules.{table_rules};
+ghost use Rattle.op_forms.specs.declared.op.Op.TheVariants as op;
+ghost use Rattle.op_rules.specs.TableRules.{table_rules};
 ghost use Rattle.c_meaning.specs.declared.program.Operand.TheVariants as operand;
 ghost use Rattle.c_meaning.specs.Step as meaning;
 ghost use Rattle.c_meaning.specs.State as states;
@@ -21,7 +21,7 @@ use crate::values::{
 };
 use c_meaning::{Argument, Code, Operand, Placed, Statement, Stored};
 use nu_value::Value;
-use op_rules::Op;
+use op_forms::Op;
 
 impl Execution {
     // A register has a value, and the run goes on.

@@ -1,7 +1,7 @@
 //! How a machine starts: the code that it runs, and the world of operations.
 
 ghost use Rattle.std.specs.Prelude.{◌≡◌, ◌++◌, ◌∷◌, [], IfOk, map, reverse};
-ghost use Rattle.nu_calls.specs.Rules.{table_rules};
+ghost use Rattle.op_rules.specs.TableRules.{table_rules};
 ghost use Rattle.nu_value.specs.declared.object.Object.TheVariants as object;
 ghost use Rattle.op_rules.specs.Start.{first_objects};
 ghost use Rattle.nu_value.specs.Natives.{native_classes};
@@ -15,7 +15,7 @@ use crate::placing::statements_of;
 use c_meaning::{Body, CEnd, CProgram, Code, Function};
 use nu_text::RcStr;
 use nu_value::{Codes, Header, Heap, Names, Object, Slots, Value};
-use op_rules::World;
+use op_forms::World;
 use sqlite_items::Items;
 use std::alloc::{AllocError, Global};
 

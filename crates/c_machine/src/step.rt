@@ -1,7 +1,7 @@
 //! One statement.
 
 ghost use Rattle.std.specs.Prelude.{◌≡◌, ◌+◌, ◌<◌, ◌^◌, IfOk, IsOk, OnSome, option_copied, false, true};
-ghost use Rattle.nu_calls.specs.Rules.{table_rules};
+ghost use Rattle.op_rules.specs.TableRules.{table_rules};
 ghost use Rattle.c_meaning.specs.Step as meaning;
 ghost use Rattle.c_machine.specs.Standing.{Outside, state_of, follows};
 ghost use Rattle.c_machine.specs.Calls.{Comes, CountsCall};

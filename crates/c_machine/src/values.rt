@@ -2,9 +2,9 @@
 
 ghost use Rattle.std.specs.Prelude.{◌≡◌, ◌+◌, ◌<◌, ◌^◌, ◌∷◌, [], ℕ, List, Option, Some, None, IfSome, true, false};
 ghost use Rattle.nu_value.specs.declared.value.Value.TheVariants as value;
-ghost use Rattle.op_rules.specs.declared.end.OpEnd.TheVariants as opend;
-ghost use Rattle.op_rules.specs.declared.op.Op.TheVariants as op;
-ghost use Rattle.op_rules.specs.Fits.{is_in};
+ghost use Rattle.op_forms.specs.declared.end.OpEnd.TheVariants as opend;
+ghost use Rattle.op_forms.specs.declared.op.Op.TheVariants as op;
+ghost use Rattle.op_forms.specs.Fits.{is_in};
 ghost use Rattle.op_rules.specs.IntRows.{int_row};
 ghost use Rattle.op_rules.specs.Numbers.{computed_end};
 ghost use Rattle.c_meaning.specs.declared.program.Operand.TheVariants as operand;
@@ -17,7 +17,8 @@ use crate::execution::held;
 use crate::lookup::{Hint, look_up, value_in};
 use c_meaning::{Argument, Operand};
 use nu_value::{Slots, Value};
-use op_rules::{Computed, Op, compute};
+use op_forms::Op;
+use op_rules::{Computed, compute};
 use runtime_table::World;
 
 /// The bool that a register has, if it has one.

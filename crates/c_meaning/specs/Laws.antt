@@ -1,7 +1,7 @@
 -- The law of runs.
 use Rattle.std.specs.Prelude.{ℕ, List}
 use Rattle.nu_run.specs.Runs.{IsMonotone}
-use Rattle.nu_calls.specs.Rules.{Rules}
+use Rattle.op_forms.specs.Rules.{Rules}
 use Rattle.c_meaning.specs.declared.program.CProgram as program
 use Rattle.c_meaning.specs.Run.{c_run}
 

@@ -3,7 +3,7 @@ use Rattle.std.specs.Prelude.{ℕ, List, [], map, length, nat_lt, None, if◌the
 use Rattle.nu_run.specs.Runs.{Run}
 use Rattle.nu_run.specs.Steps.{Stepped, on_step, run}
 use Rattle.nu_value.specs.declared.header.Header.{Header}
-use Rattle.nu_calls.specs.Rules.{Rules}
+use Rattle.op_forms.specs.Rules.{Rules}
 use Rattle.c_meaning.specs.declared.code.Code.{Code}
 use Rattle.c_meaning.specs.declared.program.Function as function
 use Rattle.c_meaning.specs.declared.program.CProgram as program

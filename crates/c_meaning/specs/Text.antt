@@ -7,7 +7,7 @@ use Rattle.nu_text.specs.Strings.{string_text}
 use Rattle.nu_value.specs.declared.header.ParamKind.{ParamKind}
 use Rattle.nu_value.specs.declared.header.ParamKind.TheVariants as kind
 use Rattle.nu_value.specs.declared.header.Header as header
-use Rattle.op_rules.specs.Names.{op_name}
+use Rattle.op_forms.specs.Names.{op_name}
 use Rattle.c_meaning.specs.declared.program.Operand.{Operand}
 use Rattle.c_meaning.specs.declared.program.Operand.TheVariants as operand
 use Rattle.c_meaning.specs.declared.program.Argument.{Argument}

@@ -5,10 +5,10 @@ use Rattle.std.specs.Str.{bytes_eq}
 use Rattle.nu_value.specs.declared.header.ParamKind.{ParamKind}
 use Rattle.nu_value.specs.declared.header.ParamKind.TheVariants as param
 use Rattle.nu_value.specs.declared.header.Header as header
-use Rattle.op_rules.specs.declared.op.Op.{Op}
-use Rattle.op_rules.specs.declared.signature.ArgumentKind.{ArgumentKind}
-use Rattle.op_rules.specs.declared.signature.ArgumentKind.TheVariants as kind
-use Rattle.op_rules.specs.Signature.{arguments, further}
+use Rattle.op_forms.specs.declared.op.Op.{Op}
+use Rattle.op_forms.specs.declared.signature.ArgumentKind.{ArgumentKind}
+use Rattle.op_forms.specs.declared.signature.ArgumentKind.TheVariants as kind
+use Rattle.op_forms.specs.Signature.{arguments, further}
 use Rattle.c_meaning.specs.declared.program.Operand.{Operand}
 use Rattle.c_meaning.specs.declared.program.Operand.TheVariants as operand
 use Rattle.c_meaning.specs.declared.program.Argument.{Argument}

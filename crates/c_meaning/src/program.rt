@@ -2,7 +2,7 @@
 
 use nu_text::RcStr;
 use nu_value::Header;
-use op_rules::Op;
+use op_forms::Op;
 use sqlite_items::Items;
 
 /// An operand: a register or a constant.

@@ -2,7 +2,7 @@
 
 use nu_run::Text;
 use nu_value::{Items, Slots, Value};
-use op_rules::After;
+use op_forms::After;
 
 /// What a generator is told where it goes on.
 #[derive(Drop)]

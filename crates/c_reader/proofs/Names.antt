@@ -3,10 +3,10 @@ use Rattle.std.proofs.Common.{◌≡◌, ℕ, List, [], ◌∷◌, ◌++◌, dro
 use Rattle.std.specs.Prelude.{codes, nat_le, ◌&&◌, unwrap_or}
 use Rattle.std.specs.List.{AllByRecursion}
 use Rattle.std.specs.Str.{bytes_eq}
-use Rattle.op_rules.specs.declared.op.Op.{Op}
-use Rattle.op_rules.specs.declared.op.Op.TheVariants as op
-use Rattle.op_rules.specs.Names.{op_name, ops, op_among}
-use Rattle.op_rules.proofs.Names.{found_by}
+use Rattle.op_forms.specs.declared.op.Op.{Op}
+use Rattle.op_forms.specs.declared.op.Op.TheVariants as op
+use Rattle.op_forms.specs.Names.{op_name, ops, op_among}
+use Rattle.op_forms.proofs.Names.{found_by}
 use Rattle.c_reader.specs.Statements.{NameStands}
 use Rattle.c_reader.proofs.Numbers.{same_rest, mapped_none}
 

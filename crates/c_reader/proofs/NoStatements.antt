@@ -1,7 +1,7 @@
 -- Where no statement stands: none of its forms does.
 use Rattle.std.proofs.Common.{ℕ, ◌^◌, List, []}
 use Rattle.std.specs.Prelude.{codes}
-use Rattle.op_rules.specs.declared.op.Op.{Op}
+use Rattle.op_forms.specs.declared.op.Op.{Op}
 use Rattle.c_meaning.specs.declared.program.Operand.{Operand}
 use Rattle.c_meaning.specs.declared.program.Argument.{Argument}
 use Rattle.c_meaning.specs.declared.program.Stored.{Stored}

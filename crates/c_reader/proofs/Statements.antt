@@ -7,9 +7,9 @@ use Rattle.nu_text.specs.Pieces.{before}
 use Rattle.nu_text.specs.Decimals.{starts_digit, is_digit}
 use Rattle.nu_text.proofs.Pieces.{before_is}
 use Rattle.nu_text.proofs.Decimals.{decimal_starts, nonempty}
-use Rattle.op_rules.specs.declared.op.Op.{Op}
-use Rattle.op_rules.specs.declared.op.Op.TheVariants as op
-use Rattle.op_rules.specs.Names.{op_name}
+use Rattle.op_forms.specs.declared.op.Op.{Op}
+use Rattle.op_forms.specs.declared.op.Op.TheVariants as op
+use Rattle.op_forms.specs.Names.{op_name}
 use Rattle.c_meaning.specs.declared.program.Operand.{Operand}
 use Rattle.c_meaning.specs.declared.program.Operand.TheVariants as operand
 use Rattle.c_meaning.specs.declared.program.Stored.{Stored}

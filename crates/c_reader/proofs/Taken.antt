@@ -2,8 +2,8 @@
 use Rattle.std.proofs.Common.{◌≡◌, ℕ, ◌<◌, List, [], ◌∷◌, length, drop, ap, arith, Bool, false, Option, Some, None, nat_eq}
 use Rattle.std.proofs.Math.Seq.{drop-cons}
 use Rattle.std.proofs.lemmas.Bool.Decides.{nat_tests}
-use Rattle.op_rules.specs.declared.signature.ArgumentKind.{ArgumentKind}
-use Rattle.op_rules.specs.declared.signature.ArgumentKind.TheVariants as kind
+use Rattle.op_forms.specs.declared.signature.ArgumentKind.{ArgumentKind}
+use Rattle.op_forms.specs.declared.signature.ArgumentKind.TheVariants as kind
 use Rattle.c_meaning.specs.declared.program.Argument.{Argument}
 use Rattle.c_meaning.specs.Written.{all_taken}
 

@@ -3,8 +3,8 @@ use Rattle.std.specs.Prelude.{◌≡◌, ℕ, List, [], ◌∷◌, ◌++◌, fal
 use Rattle.std.specs.List.{AllByRecursion, flat_map}
 use Rattle.nu_text.specs.Decimals.{starts_digit}
 use Rattle.nu_text.specs.Pieces.{before}
-use Rattle.op_rules.specs.declared.op.Op.{Op}
-use Rattle.op_rules.specs.Names.{op_name}
+use Rattle.op_forms.specs.declared.op.Op.{Op}
+use Rattle.op_forms.specs.Names.{op_name}
 use Rattle.c_meaning.specs.declared.program.Operand.{Operand}
 use Rattle.c_meaning.specs.declared.program.Operand.TheVariants as operand
 use Rattle.c_meaning.specs.declared.program.Argument.{Argument}

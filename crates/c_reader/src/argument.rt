@@ -2,7 +2,7 @@
 
 ghost use Rattle.std.specs.Prelude.{◌≡◌, ◌++◌, ℕ, List, [], IfOk, IfSome, IfNone, false, codes};
 ghost use Rattle.nu_text.specs.Decimals.{starts_digit};
-ghost use Rattle.op_rules.specs.Signature.{arguments, further};
+ghost use Rattle.op_forms.specs.Signature.{arguments, further};
 ghost use Rattle.c_meaning.specs.declared.program.Argument.{Argument};
 ghost use Rattle.c_meaning.specs.Written.{takes, all_taken};
 ghost use Rattle.c_reader.specs.Statements.{BareArgumentStands, ArgumentStands, ArgumentsStand};
@@ -12,7 +12,7 @@ use crate::operand::operand;
 use crate::spelling::string;
 use c_meaning::Argument;
 use nu_text::is_built_in_name;
-use op_rules::{ArgumentKind, Op};
+use op_forms::{ArgumentKind, Op};
 use sqlite_items::Items;
 use std::alloc::{AllocError, Global};
 

@@ -2,7 +2,7 @@
 
 ghost use Rattle.std.specs.Prelude.{◌≡◌, ◌++◌, ℕ, List, IfOk, IfSome, IfNone};
 ghost use Rattle.std.specs.List.{AllByRecursion};
-ghost use Rattle.op_rules.specs.declared.op.Op.{Op};
+ghost use Rattle.op_forms.specs.declared.op.Op.{Op};
 ghost use Rattle.c_meaning.specs.declared.program.Argument.{Argument};
 ghost use Rattle.c_meaning.specs.declared.program.Stored.TheVariants as stored;
 ghost use Rattle.c_reader.specs.Statements.{NameStands, HeadStands, StoredStands};
@@ -10,7 +10,7 @@ ghost use Rattle.c_reader.specs.Statements.{NameStands, HeadStands, StoredStands
 use crate::argument::{arguments, takes_all};
 use crate::number::{LINES, NUMBERS, after, bare_number, field};
 use c_meaning::Stored;
-use op_rules::{OPS, Op};
+use op_forms::{OPS, Op};
 use std::alloc::{AllocError, Global};
 
 // What follows the name of this operation and its frame.

@@ -8,8 +8,8 @@ use Rattle.nu_value.specs.declared.object.Object.{Object}
 use Rattle.nu_value.specs.declared.object.Object.TheVariants as object
 use Rattle.nu_value.specs.declared.value.Value.{Value}
 use Rattle.nu_value.specs.declared.value.Value.TheVariants as value
-use Rattle.op_rules.specs.declared.end.After.TheVariants as after
-use Rattle.op_rules.specs.declared.op.Op.{Op}
+use Rattle.op_forms.specs.declared.end.After.TheVariants as after
+use Rattle.op_forms.specs.declared.op.Op.{Op}
 use Rattle.nu_calls.specs.Surroundings.{Surroundings, scene, with_scene, with_frames, with_kept, kept_at}
 use Rattle.nu_rows.specs.Rows.{End, Next, Leave, Raised, Return, Stopped, Undefined, How}
 use Rattle.nu_calls.specs.Scripts.{report_function}

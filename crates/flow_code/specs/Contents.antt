@@ -1,7 +1,7 @@
 -- Which operations and constants stand in code, how many pass a test; and how many yield statements.
 use Rattle.std.specs.Prelude.{ℕ, ◌+◌, List, [], ◌∷◌, Bool, if◌then◌else◌}
-use Rattle.op_rules.specs.declared.constant.Const.{Const}
-use Rattle.op_rules.specs.declared.op.Op.{Op}
+use Rattle.op_forms.specs.declared.constant.Const.{Const}
+use Rattle.op_forms.specs.declared.op.Op.{Op}
 use Rattle.flow_code.specs.declared.statement.Argument.{Argument}
 use Rattle.flow_code.specs.declared.statement.Argument.TheVariants as argument
 use Rattle.flow_code.specs.declared.statement.Line.{Line}

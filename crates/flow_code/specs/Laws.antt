@@ -1,7 +1,7 @@
 -- The law of the runs of flat code.
 use Rattle.std.specs.Prelude.{ℕ, List}
 use Rattle.nu_run.specs.Runs.{IsMonotone}
-use Rattle.nu_calls.specs.Rules.{Rules}
+use Rattle.op_forms.specs.Rules.{Rules}
 use Rattle.flow_code.specs.declared.function.FlatScript.{FlatScript}
 use Rattle.flow_code.specs.Run.{flat_run}
 

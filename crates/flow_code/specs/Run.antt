@@ -6,7 +6,7 @@ use Rattle.nu_run.specs.Steps.{Stepped, Halt, on_step, run}
 use Rattle.nu_value.specs.declared.header.Header.{Header}
 use Rattle.nu_calls.specs.Surroundings.{Surroundings}
 use Rattle.nu_calls.specs.Calls.{of_kind}
-use Rattle.nu_calls.specs.Rules.{Rules}
+use Rattle.op_forms.specs.Rules.{Rules}
 use Rattle.flow_code.specs.declared.function.FlatFunction.{FlatFunction}
 use Rattle.flow_code.specs.declared.function.FlatScript.{FlatScript}
 use Rattle.flow_code.specs.declared.statement.Line.{Line}

@@ -1,7 +1,7 @@
 //! Statements and labels.
 
 use nu_text::RcStr;
-use op_rules::{Const, Op};
+use op_forms::{Const, Op};
 use sqlite_items::Items;
 
 /// What a statement reads.

@@ -6,8 +6,8 @@ use Rattle.nu_run.specs.Steps.{More}
 use Rattle.nu_run.proofs.Runs.{goes_some, goes_comes}
 use Rattle.nu_value.specs.declared.value.Value.{Value}
 use Rattle.nu_value.specs.declared.value.Value.TheVariants as value
-use Rattle.op_rules.specs.declared.end.After.{After}
-use Rattle.op_rules.specs.declared.op.Op.{Op}
+use Rattle.op_forms.specs.declared.end.After.{After}
+use Rattle.op_forms.specs.declared.op.Op.{Op}
 use Rattle.nu_calls.specs.Surroundings.{Surroundings, scene, with_scene, kept_at, with_kept}
 use Rattle.nu_rows.specs.Rows.{End, Next, Leave, Raised, Return, Stopped, Undefined, Step, How, Send, Throw, Start, Begin, Back, Res, Spent, Paused, Ended, Act, Instead, after, gone, left_by, entered, interp, does}
 use Rattle.nu_rows.specs.Words.{on_raised}

@@ -14,4 +14,3 @@ mod Counted
 mod Kept
 mod Greatest
 mod WellFormed
-mod Example

@@ -9,8 +9,8 @@ use Rattle.nu_value.specs.declared.object.Object.{Object}
 use Rattle.nu_value.specs.declared.object.Object.TheVariants as object
 use Rattle.nu_value.specs.declared.value.Value.{Value}
 use Rattle.nu_value.specs.declared.value.Value.TheVariants as value
-use Rattle.op_rules.specs.declared.end.After.{After}
-use Rattle.op_rules.specs.declared.end.After.TheVariants as after_kind
+use Rattle.op_forms.specs.declared.end.After.{After}
+use Rattle.op_forms.specs.declared.end.After.TheVariants as after_kind
 use Rattle.nu_calls.specs.Surroundings.{Surroundings, scene, with_scene, with_frames}
 use Rattle.nu_rows.specs.Rows.{End, Next, Leave, Raised, Return, Stopped, Undefined, Step, First, Second, Begin, Res, Spent, Paused, Ended, Row, Act, Then, Sub, Entry, Instead, after, shift, gone, left_by, entered, interp, does}
 use Rattle.nu_rows.specs.Rows as rows

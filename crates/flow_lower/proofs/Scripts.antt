@@ -6,7 +6,7 @@ use Rattle.nu_run.specs.Runs.{IsDefined, Same}
 use Rattle.nu_value.specs.declared.value.Value.{Value}
 use Rattle.nu_calls.specs.Surroundings.{Surroundings}
 use Rattle.nu_calls.specs.Calls.{of_kind}
-use Rattle.nu_calls.specs.Rules.{Rules}
+use Rattle.op_forms.specs.Rules.{Rules}
 use Rattle.node_tree.specs.declared.script.NodeCode.{NodeCode}
 use Rattle.node_tree.specs.declared.script.NodeScript.{NodeScript}
 use Rattle.node_tree.specs.Blocks as tree

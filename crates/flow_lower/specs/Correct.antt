@@ -1,7 +1,7 @@
 -- When flat code is that of a node tree, and does what it does.
 use Rattle.std.specs.Prelude.{ℕ, ◌+◌, List, [], ◌∷◌, ◌≡◌}
 use Rattle.nu_run.specs.Runs.{IsDefined, Same}
-use Rattle.nu_calls.specs.Rules.{Rules}
+use Rattle.op_forms.specs.Rules.{Rules}
 use Rattle.node_tree.specs.declared.script.NodeCode.{NodeCode}
 use Rattle.node_tree.specs.declared.script.NodeScript.{NodeScript}
 use Rattle.node_tree.specs.Run.{node_run}

@@ -1,7 +1,7 @@
 -- What stands in flat code stood in the tree.
 use Rattle.std.specs.Prelude.{List, [], ◌∷◌, ◌≡◌, map, Bool}
-use Rattle.op_rules.specs.declared.constant.Const.{Const}
-use Rattle.op_rules.specs.declared.op.Op.{Op}
+use Rattle.op_forms.specs.declared.constant.Const.{Const}
+use Rattle.op_forms.specs.declared.op.Op.{Op}
 use Rattle.node_tree.specs.Contents as tree
 use Rattle.node_tree.specs.Tree.{block}
 use Rattle.node_tree.specs.declared.script.NodeCode.{NodeCode}

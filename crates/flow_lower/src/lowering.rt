@@ -9,7 +9,7 @@ ghost use Rattle.flow_lower.specs.Lower.{form_labels, labels as label_count, exi
 use crate::copies::{call_arguments, lower_arguments, lower_operand};
 use flow_code::{Line, Operand, Statement};
 use node_tree::{Node, share_constant};
-use op_rules::Op;
+use op_forms::Op;
 use std::alloc::{AllocError, Global};
 
 /// Appends the lines of nodes. An exception leads to the label `fail`; `exits` are the labels behind the loops around.

@@ -7,14 +7,14 @@ use Rattle.nu_value.specs.declared.object.GenState.TheVariants as gen
 use Rattle.nu_value.specs.declared.object.Object.TheVariants as object
 use Rattle.nu_value.specs.declared.value.Value.{Value}
 use Rattle.nu_value.specs.declared.value.Value.TheVariants as value
-use Rattle.op_rules.specs.declared.constant.Const.TheVariants as const
-use Rattle.op_rules.specs.declared.end.How.TheVariants as how
-use Rattle.op_rules.specs.declared.end.OpEnd.TheVariants as opend
-use Rattle.op_rules.specs.declared.op.Op.{Op}
-use Rattle.op_rules.specs.declared.op.Op.TheVariants as op
-use Rattle.op_rules.specs.declared.world.World.{World}
-use Rattle.op_rules.specs.NameRows.{Answer}
-use Rattle.nu_calls.specs.Rules.{Rules}
+use Rattle.op_forms.specs.declared.constant.Const.TheVariants as const
+use Rattle.op_forms.specs.declared.end.How.TheVariants as how
+use Rattle.op_forms.specs.declared.end.OpEnd.TheVariants as opend
+use Rattle.op_forms.specs.declared.op.Op.{Op}
+use Rattle.op_forms.specs.declared.op.Op.TheVariants as op
+use Rattle.op_forms.specs.declared.world.World.{World}
+use Rattle.op_forms.specs.Answers.{Answer}
+use Rattle.op_forms.specs.Rules.{Rules}
 use Rattle.flow_code.specs.declared.function.FlatFunction.{FlatFunction}
 use Rattle.flow_code.specs.declared.function.FlatScript.{FlatScript}
 use Rattle.flow_code.specs.declared.statement.Argument.TheVariants as argument

@@ -1,6 +1,6 @@
 -- Which operations and constants stand in the lines of a program, and how many pass a test.
 use Rattle.std.specs.Prelude.{ℕ, ◌+◌, List, [], ◌∷◌, Bool, if◌then◌else◌}
-use Rattle.op_rules.specs.declared.op.Op.{Op}
+use Rattle.op_forms.specs.declared.op.Op.{Op}
 use Rattle.c_meaning.specs.declared.program.Argument.{Argument}
 use Rattle.c_meaning.specs.declared.program.Argument.TheVariants as argument
 use Rattle.c_meaning.specs.declared.program.Line.{Line}

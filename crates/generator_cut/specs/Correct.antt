@@ -2,8 +2,8 @@
 use Rattle.std.specs.Prelude.{ℕ, ◌+◌, List, [], ◌∷◌, ◌≡◌, length, map, Bool}
 use Rattle.std.specs.List.{AllByRecursion}
 use Rattle.nu_run.specs.Runs.{IsDefined, Same}
-use Rattle.nu_calls.specs.Rules.{Rules}
-use Rattle.op_rules.specs.declared.op.Op.{Op}
+use Rattle.op_forms.specs.Rules.{Rules}
+use Rattle.op_forms.specs.declared.op.Op.{Op}
 use Rattle.flow_code.specs.declared.function.FlatFunction.{FlatFunction}
 use Rattle.flow_code.specs.declared.function.FlatScript.{FlatScript}
 use Rattle.flow_code.specs.Contents as flat

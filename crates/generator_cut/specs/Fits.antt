@@ -3,8 +3,8 @@ use Rattle.std.specs.Prelude.{ℕ, List, IsUtf8}
 use Rattle.std.specs.List.{AllByRecursion}
 use Rattle.nu_value.specs.declared.header.Header.{Header}
 use Rattle.nu_value.specs.declared.header.ParamKind.{ParamKind}
-use Rattle.op_rules.specs.declared.constant.Const.{Const}
-use Rattle.op_rules.specs.declared.constant.Const.TheVariants as const
+use Rattle.op_forms.specs.declared.constant.Const.{Const}
+use Rattle.op_forms.specs.declared.constant.Const.TheVariants as const
 use Rattle.flow_code.specs.declared.function.FlatFunction.{FlatFunction}
 use Rattle.flow_code.specs.declared.function.FlatScript.{FlatScript}
 use Rattle.flow_code.specs.declared.statement.Argument.{Argument}

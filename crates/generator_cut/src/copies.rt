@@ -10,7 +10,7 @@ use c_meaning::{Argument, Operand};
 use flow_code::FlatFunction;
 use nu_text::RcStr;
 use nu_value::{Header, Shape};
-use op_rules::Const;
+use op_forms::Const;
 use sqlite_items::Items;
 use std::alloc::{AllocError, Global};
 

@@ -5,9 +5,9 @@ use Rattle.nu_value.specs.declared.object.Object.{Object}
 use Rattle.nu_value.specs.declared.object.Object.TheVariants as object
 use Rattle.nu_value.specs.declared.value.Value.{Value}
 use Rattle.nu_value.specs.declared.value.Value.TheVariants as value
-use Rattle.op_rules.specs.declared.end.After.{After}
-use Rattle.op_rules.specs.declared.op.Op.{Op}
-use Rattle.op_rules.specs.declared.op.Op.TheVariants as op
+use Rattle.op_forms.specs.declared.end.After.{After}
+use Rattle.op_forms.specs.declared.op.Op.{Op}
+use Rattle.op_forms.specs.declared.op.Op.TheVariants as op
 use Rattle.nu_rows.specs.Rows.{End, Next, Leave, Raised, Return, Stopped, Undefined, Step, First, Second, How, Send, Throw, Start, Begin, Back, Res, Spent, Paused, Ended, Effect, Act, Yld, Then, Loop, Sub, Left, AtPause, AtEnd, Entry, Into, Instead, shift, after, before, turned, left_by, entered, interp, run, does}
 use Rattle.nu_rows.specs.Words.{ends_with, on_next, on_raised, choose}
 use Rattle.nu_calls.specs.Surroundings.{scene}

@@ -2,7 +2,7 @@
 -- temporaries, from t on: the value that is returned, or the exception; whether an end other than a value is pending; whether it is an
 -- exception; whether it is a return; and whether it leaves two loops.
 use Rattle.std.specs.Prelude.{ℕ, zero, suc, ◌+◌, Bool, true, false, Option, Some, None}
-use Rattle.op_rules.specs.declared.constant.Const.TheVariants as const
+use Rattle.op_forms.specs.declared.constant.Const.TheVariants as const
 use Rattle.node_tree.specs.declared.node.Operand.{Operand}
 use Rattle.node_tree.specs.declared.node.Operand.TheVariants as operand
 use Rattle.node_tree.specs.Blocks as tree

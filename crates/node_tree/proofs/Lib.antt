@@ -1,3 +1,2 @@
 pub mod Direct
 pub mod Forms
-mod Example

@@ -1,7 +1,7 @@
 -- Blocks of primitive statements, as the meaning reads them: a block is the end, or a statement and the rest.
 use Rattle.std.specs.Prelude.{ℕ, List}
-use Rattle.op_rules.specs.declared.constant.Const.{Const}
-use Rattle.op_rules.specs.declared.op.Op.{Op}
+use Rattle.op_forms.specs.declared.constant.Const.{Const}
+use Rattle.op_forms.specs.declared.op.Op.{Op}
 use Rattle.node_tree.specs.declared.node.Argument.{Argument}
 use Rattle.node_tree.specs.declared.node.Operand.{Operand}
 

@@ -1,8 +1,8 @@
 -- Which operations and constants stand in a block, how many pass a test; and how many pauses.
 use Rattle.std.specs.Prelude.{ℕ, ◌+◌, List, [], ◌∷◌, map, Bool, if◌then◌else◌}
-use Rattle.op_rules.specs.declared.constant.Const.{Const}
-use Rattle.op_rules.specs.declared.op.Op.{Op}
-use Rattle.op_rules.specs.declared.op.Op.TheVariants as op
+use Rattle.op_forms.specs.declared.constant.Const.{Const}
+use Rattle.op_forms.specs.declared.op.Op.{Op}
+use Rattle.op_forms.specs.declared.op.Op.TheVariants as op
 use Rattle.node_tree.specs.declared.node.Argument.{Argument}
 use Rattle.node_tree.specs.declared.node.Argument.TheVariants as argument
 use Rattle.node_tree.specs.declared.node.Operand.{Operand}

@@ -4,7 +4,7 @@ use Rattle.nu_run.specs.Runs.{IsMonotone}
 use Rattle.nu_rows.specs.Rows.{Step, How, Begin, Back, does}
 use Rattle.nu_rows.specs.Places.{part_at, rest_of, IsFirstPart}
 use Rattle.nu_calls.specs.Calls.{State}
-use Rattle.nu_calls.specs.Rules.{Rules}
+use Rattle.op_forms.specs.Rules.{Rules}
 use Rattle.node_tree.specs.declared.node.Node.{Node}
 use Rattle.node_tree.specs.declared.script.NodeScript.{NodeScript}
 use Rattle.node_tree.specs.Blocks.{Block, append}

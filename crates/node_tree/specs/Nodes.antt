@@ -4,9 +4,9 @@ use Rattle.nu_value.specs.declared.object.Object.{Object}
 use Rattle.nu_value.specs.declared.object.Object.TheVariants as object
 use Rattle.nu_value.specs.declared.value.Value.{Value}
 use Rattle.nu_value.specs.declared.value.Value.TheVariants as value
-use Rattle.op_rules.specs.declared.op.Op.{Op}
-use Rattle.op_rules.specs.declared.op.Op.TheVariants as op
-use Rattle.op_rules.specs.Foldable.{value_of}
+use Rattle.op_forms.specs.declared.op.Op.{Op}
+use Rattle.op_forms.specs.declared.op.Op.TheVariants as op
+use Rattle.op_forms.specs.Constants.{value_of}
 use Rattle.nu_rows.specs.Rows.{End, Next, Leave, Raised, Return, Stopped, Undefined, Effect, Row, Act, Then, Loop, Sub, Entry, Instead}
 use Rattle.nu_rows.specs.Words.{ends_with, on_next, on_raised, choose, quiet}
 use Rattle.nu_calls.specs.Calls.{State, state_of, Language, unsaid, operates, on_line, yields}

@@ -4,7 +4,7 @@ use Rattle.nu_run.specs.Runs.{Run}
 use Rattle.nu_value.specs.declared.header.Header.{Header}
 use Rattle.nu_value.specs.declared.value.Value.{Value}
 use Rattle.nu_calls.specs.Calls.{of_kind}
-use Rattle.nu_calls.specs.Rules.{Rules}
+use Rattle.op_forms.specs.Rules.{Rules}
 use Rattle.nu_calls.specs.Scripts.{Program, program_run}
 use Rattle.node_tree.specs.declared.script.NodeCode.{NodeCode}
 use Rattle.node_tree.specs.declared.script.NodeScript.{NodeScript}

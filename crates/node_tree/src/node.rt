@@ -3,7 +3,7 @@
 ghost use Rattle.std.specs.Prelude.{◌≡◌, IfOk};
 
 use nu_text::RcStr;
-use op_rules::{Const, Op};
+use op_forms::{Const, Op};
 use sqlite_items::Items;
 use std::alloc::AllocError;
 

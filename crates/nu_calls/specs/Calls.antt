@@ -2,11 +2,11 @@
 use Rattle.std.specs.Prelude.{ℕ, List, [], Option, Some, None, Bool, true, false, if◌then◌else◌}
 use Rattle.nu_value.specs.declared.value.Value.{Value}
 use Rattle.nu_value.specs.declared.value.Value.TheVariants as value
-use Rattle.op_rules.specs.declared.end.After.{After}
-use Rattle.op_rules.specs.declared.op.Op.{Op}
+use Rattle.op_forms.specs.declared.end.After.{After}
+use Rattle.op_forms.specs.declared.op.Op.{Op}
 use Rattle.nu_rows.specs.Rows.{End, Next, Raised, Return, Stopped, Undefined, Step, How, Begin, Back, Effect, Row, Act, Yld, Then, Sub, Left, AtPause, AtEnd, Entry, Into, Instead}
 use Rattle.nu_rows.specs.Words.{on_raised}
-use Rattle.nu_calls.specs.Rules.{Rules}
+use Rattle.op_forms.specs.Rules.{Rules}
 use Rattle.nu_calls.specs.Surroundings.{Surroundings, Scene, scene, with_scene, kept_at, with_kept}
 use Rattle.nu_calls.specs.Ends.{Result, Gives, Raises, Stops, Unsaid, Ending, Begun, Over, Calls, Starts, Wakes, Began, begun_by, generator_paused, generator_ended, call_ended, inside, outside, at_line}
 

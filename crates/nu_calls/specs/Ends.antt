@@ -10,15 +10,15 @@ use Rattle.nu_value.specs.declared.object.Object.{Object}
 use Rattle.nu_value.specs.declared.object.Object.TheVariants as object
 use Rattle.nu_value.specs.declared.value.Value.{Value}
 use Rattle.nu_value.specs.declared.value.Value.TheVariants as value
-use Rattle.op_rules.specs.declared.end.After.{After}
-use Rattle.op_rules.specs.declared.end.How as op_how
-use Rattle.op_rules.specs.declared.end.How.TheVariants as how
-use Rattle.op_rules.specs.declared.end.OpEnd.{OpEnd}
-use Rattle.op_rules.specs.declared.end.OpEnd.TheVariants as opend
-use Rattle.op_rules.specs.declared.world.World.{World}
+use Rattle.op_forms.specs.declared.end.After.{After}
+use Rattle.op_forms.specs.declared.end.How as op_how
+use Rattle.op_forms.specs.declared.end.How.TheVariants as how
+use Rattle.op_forms.specs.declared.end.OpEnd.{OpEnd}
+use Rattle.op_forms.specs.declared.end.OpEnd.TheVariants as opend
+use Rattle.op_forms.specs.declared.world.World.{World}
 use Rattle.nu_rows.specs.Rows.{End, Next, Leave, Raised, Return, Stopped, Undefined, How, Send, Throw}
-use Rattle.op_rules.specs.NameRows.{Answer}
-use Rattle.nu_calls.specs.Rules.{Rules}
+use Rattle.op_forms.specs.Answers.{Answer}
+use Rattle.op_forms.specs.Rules.{Rules}
 use Rattle.nu_calls.specs.Surroundings.{Scene, with_world, with_heap, with_input, with_frames}
 use Rattle.nu_calls.specs.Exceptions.{Thrown, exception_made, with_entry, is_kind}
 use Rattle.nu_calls.specs.Lines.{NextLine, ALine, NoLine, BadLine, line_of}

@@ -1,4 +1,3 @@
-pub mod Rules
 pub mod Surroundings
 pub mod Exceptions
 pub mod Lines

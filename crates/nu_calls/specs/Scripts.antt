@@ -8,10 +8,10 @@ use Rattle.nu_value.specs.declared.object.Object.{Object}
 use Rattle.nu_value.specs.declared.object.Object.TheVariants as object
 use Rattle.nu_value.specs.declared.value.Value.{Value}
 use Rattle.nu_value.specs.declared.value.Value.TheVariants as value
-use Rattle.op_rules.specs.declared.end.After.TheVariants as after
+use Rattle.op_forms.specs.declared.end.After.TheVariants as after
 use Rattle.nu_value.specs.Names.{value_at}
-use Rattle.op_rules.specs.declared.world.World.{World}
-use Rattle.op_rules.specs.NameRows.{names_of}
+use Rattle.op_forms.specs.declared.world.World.{World}
+use Rattle.op_forms.specs.Answers.{names_of}
 use Rattle.nu_rows.specs.Rows.{End, Next, Raised, Return, Stopped, Undefined, Effect, Row, Act, Then, Sub, Entry, Instead}
 use Rattle.nu_rows.specs.Words.{ends_with, on_next, quiet}
 use Rattle.nu_rows.specs.Driver.{main_run}

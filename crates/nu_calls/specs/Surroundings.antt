@@ -1,7 +1,7 @@
 -- What operations see of the surroundings of a frame, and what paused generators keep.
 use Rattle.std.specs.Prelude.{ℕ, zero, suc, List, [], ◌∷◌, Option, None}
 use Rattle.nu_value.specs.declared.object.Object.{Object}
-use Rattle.op_rules.specs.declared.world.World.{World}
+use Rattle.op_forms.specs.declared.world.World.{World}
 
 -- what every meaning keeps beside the frames of its functions: the world of operations; what each paused generator keeps, by the
 -- number of its object; the bytes of the input that are left; and how many frames are live

@@ -2,8 +2,8 @@
 use Rattle.std.proofs.Common.{◌≡◌, ℕ, zero, suc, ◌≤◌, Bool, true, false, if◌then◌else◌, List, [], ◌∷◌, Option, Some, None, refl, sym, ap, ◌∙◌, subst}
 use Rattle.nu_value.specs.declared.value.Value.{Value}
 use Rattle.nu_value.specs.declared.value.Value.TheVariants as value
-use Rattle.op_rules.specs.declared.end.After.{After}
-use Rattle.op_rules.specs.declared.op.Op.{Op}
+use Rattle.op_forms.specs.declared.end.After.{After}
+use Rattle.op_forms.specs.declared.op.Op.{Op}
 use Rattle.nu_rows.specs.Rows.{End, Next, Leave, Raised, Return, Stopped, Undefined, Step, How, Send, Throw, Back, Act, Sub, AtPause, AtEnd, Entry, Instead, sent}
 use Rattle.nu_rows.specs.Words.{on_raised}
 use Rattle.nu_rows.specs.Sim.{Ends}

@@ -5,7 +5,7 @@ use Rattle.nu_value.specs.declared.object.Object.{Object}
 use Rattle.nu_value.specs.declared.object.Object.TheVariants as object
 use Rattle.nu_value.specs.declared.value.Value.{Value}
 use Rattle.nu_value.specs.declared.value.Value.TheVariants as value
-use Rattle.op_rules.specs.declared.end.After.TheVariants as after
+use Rattle.op_forms.specs.declared.end.After.TheVariants as after
 use Rattle.nu_run.specs.declared.End.TheVariants as end
 use Rattle.nu_run.specs.Runs.{Same}
 use Rattle.nu_rows.specs.Rows.{End, Next, Leave, Raised, Return, Stopped, Undefined, Start, Begin, Back, Effect, Act, Part, Then, Sub, Instead, does}

@@ -5,7 +5,7 @@ use Rattle.nu_value.specs.declared.value.Value.{Value}
 use Rattle.nu_value.specs.declared.value.Value.TheVariants as value
 use Rattle.nu_rows.specs.Rows.{Next, Leave, Raised, Return, Stopped, Undefined, Step, Part}
 use Rattle.nu_rows.specs.Sim.{Places, Ends, Sim}
-use Rattle.nu_calls.specs.Rules.{Rules}
+use Rattle.op_forms.specs.Rules.{Rules}
 use Rattle.nu_calls.specs.Surroundings.{Surroundings, scene, kept_at}
 use Rattle.nu_calls.specs.Calls.{State, Pause}
 use Rattle.node_tree.specs.declared.node.Operand.{Operand}

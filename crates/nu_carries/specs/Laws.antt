@@ -1,11 +1,11 @@
 -- What blocks carry, and what follows for scripts.
 use Rattle.std.specs.Prelude.{◌≡◌, ℕ, ◌+◌, ◌<◌, ◌≤◌, List, [], ◌∷◌, map, Option, Some, None, true, false, slice_get}
 use Rattle.nu_run.specs.Runs.{Same}
-use Rattle.op_rules.specs.declared.constant.Const.{Const}
-use Rattle.op_rules.specs.declared.constant.Const.TheVariants as const
-use Rattle.op_rules.specs.declared.op.Op.{Op}
-use Rattle.op_rules.specs.declared.op.Op.TheVariants as op
-use Rattle.op_rules.specs.Foldable.{value_of}
+use Rattle.op_forms.specs.declared.constant.Const.{Const}
+use Rattle.op_forms.specs.declared.constant.Const.TheVariants as const
+use Rattle.op_forms.specs.declared.op.Op.{Op}
+use Rattle.op_forms.specs.declared.op.Op.TheVariants as op
+use Rattle.op_forms.specs.Constants.{value_of}
 use Rattle.node_tree.specs.declared.node.Argument.TheVariants as argument
 use Rattle.node_tree.specs.declared.node.Operand.{Operand}
 use Rattle.node_tree.specs.declared.node.Operand.TheVariants as operand

@@ -2,8 +2,8 @@
 use Rattle.std.proofs.Common.{◌≡◌, ℕ, ◌≤◌, List, ◌∷◌, Some, refl, ap, arith}
 use Rattle.nu_value.specs.declared.value.Value.{Value}
 use Rattle.nu_value.specs.declared.value.Value.TheVariants as value
-use Rattle.op_rules.specs.declared.op.Op.{Op}
-use Rattle.op_rules.specs.Foldable.{value_of}
+use Rattle.op_forms.specs.declared.op.Op.{Op}
+use Rattle.op_forms.specs.Constants.{value_of}
 use Rattle.nu_rows.specs.Rows.{Next, Leave, Raised, Return, Stopped, Undefined, Begin, Ended, run, interp, after, does}
 use Rattle.nu_rows.specs.Words.{ends_with, on_next}
 use Rattle.nu_rows.specs.Matching.{Silent}

@@ -2,8 +2,8 @@
 use Rattle.std.proofs.Common.{◌≡◌, ◌⊎◌, inr, ℕ, zero, ◌+◌, ◌<◌, ◌≤◌, true, false, [], ◌∷◌, Some, refl, ap, arith}
 use Rattle.nu_value.specs.declared.value.Value.{Value}
 use Rattle.nu_value.specs.declared.value.Value.TheVariants as value
-use Rattle.op_rules.specs.declared.constant.Const.TheVariants as const
-use Rattle.op_rules.specs.declared.op.Op.TheVariants as op
+use Rattle.op_forms.specs.declared.constant.Const.TheVariants as const
+use Rattle.op_forms.specs.declared.op.Op.TheVariants as op
 use Rattle.nu_rows.specs.Rows.{Next, Leave, Raised, Return, Stopped, Undefined, Begin, Ended, Then, Loop, after, interp, run, does}
 use Rattle.nu_rows.specs.Words.{ends_with, on_next, then_value, choose}
 use Rattle.nu_calls.specs.Calls.{operate}

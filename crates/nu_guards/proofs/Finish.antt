@@ -2,7 +2,7 @@
 use Rattle.std.proofs.Common.{◌≡◌, inr, ℕ, zero, suc, ◌+◌, ◌<◌, ◌≤◌, Bool, true, false, [], Option, Some, None, refl, arith}
 use Rattle.nu_value.specs.declared.value.Value.{Value}
 use Rattle.nu_value.specs.declared.value.Value.TheVariants as value
-use Rattle.op_rules.specs.declared.constant.Const.TheVariants as const
+use Rattle.op_forms.specs.declared.constant.Const.TheVariants as const
 use Rattle.nu_rows.specs.Rows.{End, Next, Leave, Raised, Return, Stopped, Undefined, Then}
 use Rattle.nu_rows.specs.Words.{ends_with, on_next, choose}
 use Rattle.node_tree.specs.declared.node.Operand.TheVariants as operand

@@ -1,7 +1,7 @@
 -- Operations of a code whose states correspond in any way, and what is written beside the temporaries that names have so far.
 use Rattle.std.proofs.Common.{◌≡◌, ◌≢◌, ℕ, ◌<◌, List, [], Some, refl, sym, ap, ◌∙◌, subst}
 use Rattle.nu_value.specs.declared.value.Value.{Value}
-use Rattle.op_rules.specs.declared.op.Op.{Op}
+use Rattle.op_forms.specs.declared.op.Op.{Op}
 use Rattle.nu_rows.specs.Rows.{End, Next, Raised, Stopped, Undefined, Act, Sub}
 use Rattle.nu_rows.specs.Words.{on_raised}
 use Rattle.nu_rows.specs.Matching.{Corresponding}

@@ -1,7 +1,7 @@
 -- The primitive statements that make a function: its defaults, the cells that it has of this frame, and the function.
 use Rattle.std.specs.Prelude.{ℕ, ◌+◌, ◌<◌, ◌≤◌, pos, List, [], ◌∷◌, map}
-use Rattle.op_rules.specs.declared.constant.Const.TheVariants as const
-use Rattle.op_rules.specs.declared.op.Op.TheVariants as op
+use Rattle.op_forms.specs.declared.constant.Const.TheVariants as const
+use Rattle.op_forms.specs.declared.op.Op.TheVariants as op
 use Rattle.node_tree.specs.declared.node.Argument.TheVariants as argument
 use Rattle.node_tree.specs.declared.node.Operand.TheVariants as operand
 use Rattle.node_tree.specs.Blocks as tree

@@ -1,6 +1,6 @@
 -- The primitive statements that read, bind and unbind names, by their homes.
 use Rattle.std.specs.Prelude.{ℕ, ◌<◌, ◌≤◌, [], ◌∷◌}
-use Rattle.op_rules.specs.declared.op.Op.TheVariants as op
+use Rattle.op_forms.specs.declared.op.Op.TheVariants as op
 use Rattle.node_tree.specs.declared.node.Argument.{Argument}
 use Rattle.node_tree.specs.declared.node.Argument.TheVariants as argument
 use Rattle.node_tree.specs.declared.node.Operand.{Operand}

@@ -1,6 +1,6 @@
 -- Attributes, what indices lead to, and several targets, deleted.
 use Rattle.std.proofs.Common.{ℕ, ◌+◌, ◌≤◌, List, [], ◌∷◌, refl, arith}
-use Rattle.op_rules.specs.declared.op.Op.TheVariants as op
+use Rattle.op_forms.specs.declared.op.Op.TheVariants as op
 use Rattle.node_tree.specs.declared.node.Argument.TheVariants as argument
 use Rattle.node_tree.specs.declared.node.Operand.{Operand}
 use Rattle.node_tree.specs.Blocks as tree

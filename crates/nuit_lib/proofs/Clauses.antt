@@ -3,7 +3,7 @@ use Rattle.std.proofs.Common.{◌≡◌, ℕ, ◌⊎◌, inl, inr, List, refl, s
 use Rattle.nu_run.specs.declared.End.TheVariants as end
 use Rattle.nu_run.specs.Runs.{Run, Going, Ended, printed_by}
 use Rattle.nu_base.specs.Outside.{Adds}
-use Rattle.nu_calls.specs.Rules.{table_rules}
+use Rattle.op_rules.specs.TableRules.{table_rules}
 use Rattle.c_meaning.specs.Run.{c_run}
 use Rattle.c_reader.proofs.Programs.{one_program}
 use Rattle.nuit_lib.specs.declared.status.Status.{Status}

@@ -5,16 +5,17 @@ use Rattle.std.specs.List.{AllByRecursion}
 use Rattle.std.proofs.lemmas.List.{length-map}
 use Rattle.nu_run.specs.Runs.{Same}
 use Rattle.nu_run.proofs.Runs.{same_trans}
-use Rattle.nu_calls.specs.Rules.{table_rules}
-use Rattle.op_rules.specs.declared.op.Op.{Op}
-use Rattle.op_rules.specs.declared.op.Op.TheVariants as op
-use Rattle.op_rules.specs.declared.signature.ArgumentKind.{ArgumentKind}
-use Rattle.op_rules.specs.declared.signature.ArgumentKind.TheVariants as kind
-use Rattle.op_rules.specs.Signature.{arguments, further}
+use Rattle.op_rules.specs.TableRules.{table_rules}
+use Rattle.op_forms.specs.declared.op.Op.{Op}
+use Rattle.op_forms.specs.declared.op.Op.TheVariants as op
+use Rattle.op_forms.specs.declared.signature.ArgumentKind.{ArgumentKind}
+use Rattle.op_forms.specs.declared.signature.ArgumentKind.TheVariants as kind
+use Rattle.op_forms.specs.Signature.{arguments, further}
 use Rattle.py_ast.specs.declared.scoped.Scoped.{Scoped}
 use Rattle.py_scopes.specs.Resolve.{Answers}
 use Rattle.py_meaning.specs.Script.{py_run}
-use Rattle.py_safe.specs.Laws.{TheTableKeepsLaw, RunsNeverEndUndefined}
+use Rattle.py_safe.specs.Laws.{RunsNeverEndUndefined}
+use Rattle.py_table.specs.Laws.{TheTableKeepsLaw}
 use Rattle.py_accepted.specs.Laws.{AcceptedScriptsNeverEndUndefined}
 use Rattle.node_tree.specs.declared.node.Argument.{Argument}
 use Rattle.node_tree.specs.declared.node.Argument.TheVariants as argument

@@ -7,7 +7,7 @@ use Rattle.nu_run.specs.Runs.{Run, Going, Ended, printed_by}
 use Rattle.nu_run.proofs.Runs.{prefix_refl}
 use Rattle.c_meaning.specs.declared.program.CProgram as program
 use Rattle.c_meaning.specs.Written.{IsText}
-use Rattle.nu_calls.specs.Rules.{table_rules}
+use Rattle.op_rules.specs.TableRules.{table_rules}
 use Rattle.c_meaning.specs.Run.{c_run}
 use Rattle.nuit_lib.specs.declared.status.Status.{Status}
 use Rattle.nuit_lib.specs.declared.status.Status.TheVariants as status

@@ -1,7 +1,7 @@
 -- What compiling a script answers: from its scopes to C text.
 use Rattle.std.specs.Prelude.{◌≡◌, ℕ, List, map, length, Some, None}
 use Rattle.nu_run.specs.Runs.{Same}
-use Rattle.nu_calls.specs.Rules.{table_rules}
+use Rattle.op_rules.specs.TableRules.{table_rules}
 use Rattle.py_ast.specs.declared.scoped.Scoped.{Scoped}
 use Rattle.py_meaning.specs.Script.{py_run, all_codes}
 use Rattle.reform_all.specs.declared.ending.ReformEnd.{ReformEnd}

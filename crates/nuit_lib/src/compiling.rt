@@ -9,7 +9,8 @@ use flow_lower::lower;
 use generator_cut::cut;
 use py_accepted::accepted_scripts_never_end_undefined;
 use py_ast::Scoped;
-use py_safe::{runs_never_end_undefined, the_table_keeps_law};
+use py_safe::runs_never_end_undefined;
+use py_table::the_table_keeps_law;
 use reform_all::{ReformEnd, reform};
 use std::alloc::Global;
 

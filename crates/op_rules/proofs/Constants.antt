@@ -5,14 +5,15 @@ use Rattle.nu_run.specs.declared.StopKind.TheVariants as stop
 use Rattle.nu_value.specs.declared.same.Sameness.TheVariants as same
 use Rattle.nu_value.specs.declared.value.Value.TheVariants as value
 use Rattle.nu_value.specs.Same.{eq, identical, number_of, numbers_eq, verdict}
-use Rattle.op_rules.specs.declared.constant.Const.{Const}
-use Rattle.op_rules.specs.declared.constant.Const.TheVariants as const
-use Rattle.op_rules.specs.declared.end.OpEnd.TheVariants as opend
-use Rattle.op_rules.specs.declared.op.Op.{Op}
-use Rattle.op_rules.specs.declared.op.Op.TheVariants as op
+use Rattle.op_forms.specs.declared.constant.Const.{Const}
+use Rattle.op_forms.specs.declared.constant.Const.TheVariants as const
+use Rattle.op_forms.specs.declared.end.OpEnd.TheVariants as opend
+use Rattle.op_forms.specs.declared.op.Op.{Op}
+use Rattle.op_forms.specs.declared.op.Op.TheVariants as op
 use Rattle.op_rules.specs.Comparisons.{same_end}
-use Rattle.op_rules.specs.Fits.{is_in}
-use Rattle.op_rules.specs.Foldable.{folded, given, value_of}
+use Rattle.op_forms.specs.Fits.{is_in}
+use Rattle.op_forms.specs.Constants.{value_of}
+use Rattle.op_rules.specs.Foldable.{folded, given}
 use Rattle.op_rules.specs.Folding.{const_eq, order_folded, pair_folded, two_folded, one_folded, folded_by}
 use Rattle.op_rules.specs.Table.{by_family}
 use Rattle.nu_text.specs.Characters.{characters}

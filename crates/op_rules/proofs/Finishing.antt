@@ -7,17 +7,17 @@ use Rattle.nu_value.specs.declared.object.Object.TheVariants as object
 use Rattle.nu_value.specs.declared.value.Value.{Value}
 use Rattle.nu_value.specs.declared.value.Value.TheVariants as value
 use Rattle.nu_value.specs.Same.{number_of}
-use Rattle.op_rules.specs.declared.end.After.{After}
-use Rattle.op_rules.specs.declared.end.After.TheVariants as then
-use Rattle.op_rules.specs.declared.end.OpEnd.{OpEnd}
-use Rattle.op_rules.specs.declared.end.OpEnd.TheVariants as opend
-use Rattle.op_rules.specs.declared.world.World.{World}
+use Rattle.op_forms.specs.declared.end.After.{After}
+use Rattle.op_forms.specs.declared.end.After.TheVariants as then
+use Rattle.op_forms.specs.declared.end.OpEnd.{OpEnd}
+use Rattle.op_forms.specs.declared.end.OpEnd.TheVariants as opend
+use Rattle.op_forms.specs.declared.world.World.{World}
 use Rattle.op_rules.specs.Comparisons.{give_bool}
 use Rattle.op_rules.specs.Finish.{truth_after, length_after, is_none, made_after, tuple_after, finished}
 use Rattle.op_rules.specs.Kinds.{type_error, value_error}
-use Rattle.op_rules.specs.Laws.{after}
-use Rattle.op_rules.specs.NameRows.{Answer, keeps}
-use Rattle.op_rules.specs.Sound.{IsIn, AllIn, AfterIn, Sound, EndIn}
+use Rattle.op_forms.specs.Answers.{after}
+use Rattle.op_forms.specs.Answers.{Answer, keeps}
+use Rattle.op_forms.specs.Sound.{IsIn, AllIn, AfterIn, Sound, EndIn}
 use Rattle.op_rules.proofs.Worlds.{grows_end, all_more, end_sound, grown_world}
 use Rattle.op_rules.proofs.Plain.{IsPlain, plain_in, if_plain}
 

@@ -9,16 +9,17 @@ use Rattle.nu_value.specs.declared.value.Value.{Value}
 use Rattle.nu_value.specs.declared.value.Value.TheVariants as value
 use Rattle.nu_value.specs.Names.{NameList, place_of, value_at}
 use Rattle.nu_value.specs.Same.{object_of}
-use Rattle.op_rules.specs.declared.end.OpEnd.{OpEnd}
-use Rattle.op_rules.specs.declared.op.Op.{Op}
-use Rattle.op_rules.specs.declared.op.Op.TheVariants as op
-use Rattle.op_rules.specs.declared.signature.ArgumentKind.TheVariants as kind
-use Rattle.op_rules.specs.declared.world.World.{World}
-use Rattle.op_rules.specs.Fits.{fits, is_in, is_of, is_cell}
-use Rattle.op_rules.specs.Laws.{after}
-use Rattle.op_rules.specs.NameRows.{Answer, keeps, changed, names_of, not_defined, no_local, no_free, value_or, global_row, setglobal_row, with_binding, without_binding, altered, forgotten, delglobal_row, set_or, local_row, cell_row, held, held_by, filled, emptied, cellset_row, named, of_name, of_name_value, of_value_name, of_none, of_two_values}
+use Rattle.op_forms.specs.declared.end.OpEnd.{OpEnd}
+use Rattle.op_forms.specs.declared.op.Op.{Op}
+use Rattle.op_forms.specs.declared.op.Op.TheVariants as op
+use Rattle.op_forms.specs.declared.signature.ArgumentKind.TheVariants as kind
+use Rattle.op_forms.specs.declared.world.World.{World}
+use Rattle.op_forms.specs.Fits.{fits, is_in, is_of, is_cell}
+use Rattle.op_forms.specs.Answers.{after}
+use Rattle.op_forms.specs.Answers.{Answer, keeps, changed, names_of}
+use Rattle.op_rules.specs.NameRows.{not_defined, no_local, no_free, value_or, global_row, setglobal_row, with_binding, without_binding, altered, forgotten, delglobal_row, set_or, local_row, cell_row, held, held_by, filled, emptied, cellset_row, named, of_name, of_name_value, of_value_name, of_none, of_two_values}
 use Rattle.op_rules.specs.Table.{row}
-use Rattle.op_rules.specs.Sound.{sort_of, ACell, ASpace, IsA, IsIn, MayBeIn, NamesIn, Sound, EndIn}
+use Rattle.op_forms.specs.Sound.{sort_of, ACell, ASpace, IsA, IsIn, MayBeIn, NamesIn, Sound, EndIn}
 use Rattle.op_rules.proofs.Worlds.{grows_set, grows_end, set_sound, end_sound, grown_world}
 use Rattle.op_rules.proofs.Bindings.{ValueIn, names_at, names_with, names_without}
 use Rattle.op_rules.proofs.Plain.{IsPlain, plain_in, int_plain, by_family_plain, call_plain}

@@ -1,4 +1,3 @@
-pub mod Names
 mod Ranges
 mod Division
 mod Powers

@@ -13,12 +13,12 @@ use Rattle.nu_value.specs.Natives.{native_classes}
 use Rattle.nu_value.specs.Same.{eq, number_of}
 use Rattle.op_rules.specs.declared.arithmetic.Computed.{Computed}
 use Rattle.op_rules.specs.declared.arithmetic.Computed.TheVariants as computed
-use Rattle.op_rules.specs.declared.end.OpEnd.{OpEnd}
-use Rattle.op_rules.specs.declared.end.OpEnd.TheVariants as opend
+use Rattle.op_forms.specs.declared.end.OpEnd.{OpEnd}
+use Rattle.op_forms.specs.declared.end.OpEnd.TheVariants as opend
 use Rattle.op_rules.specs.declared.family.Family.{Family}
 use Rattle.op_rules.specs.declared.family.Family.TheVariants as family
-use Rattle.op_rules.specs.declared.op.Op.{Op}
-use Rattle.op_rules.specs.declared.op.Op.TheVariants as op
+use Rattle.op_forms.specs.declared.op.Op.{Op}
+use Rattle.op_forms.specs.declared.op.Op.TheVariants as op
 use Rattle.op_rules.specs.Numbers.{int_op, unary_op, computed_end}
 use Rattle.op_rules.specs.Comparisons.{same_end, not_row, truth_row, object_truth}
 use Rattle.op_rules.specs.IntRows.{of_one, of_two, on_number, on_numbers, bool_op, bool_or, number_pair, number_order, number_one, int_row}
@@ -26,7 +26,7 @@ use Rattle.nu_text.specs.Characters.{characters}
 use Rattle.op_rules.specs.TextRows.{sized, size_limit, repeated_by, copy_count, copies, text_add, text_mul, text_mod, text_pair, text_operation, on_texts, text_order, text_row}
 use Rattle.op_rules.specs.CallRows.{text_of, printed, print_row, call_object, call_value, call_row}
 use Rattle.op_rules.specs.Table.{family_row, family_of, by_family}
-use Rattle.op_rules.specs.Sound.{SoundHeap, EndIn}
+use Rattle.op_forms.specs.Sound.{SoundHeap, EndIn}
 use Rattle.op_rules.proofs.Worlds.{native_class}
 
 abbrev IsPlainValue : Value → Type 0

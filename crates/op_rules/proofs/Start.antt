@@ -5,7 +5,7 @@ use Rattle.nu_value.specs.declared.header.Header.{Header}
 use Rattle.nu_value.specs.declared.object.Object.{Object}
 use Rattle.nu_value.specs.Natives.{native_classes}
 use Rattle.op_rules.specs.Start.{first_objects, start_world}
-use Rattle.op_rules.specs.Sound.{AClass, IsA, ObjectIn, Sound}
+use Rattle.op_forms.specs.Sound.{AClass, IsA, ObjectIn, Sound}
 use Rattle.op_rules.proofs.Worlds.{before_end}
 
 abbrev AllObjects : ℕ → List Object → List Object → Type 0

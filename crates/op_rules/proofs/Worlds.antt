@@ -11,8 +11,8 @@ use Rattle.nu_value.specs.declared.natives.Native.{Native}
 use Rattle.nu_value.specs.Names.{NameList}
 use Rattle.nu_value.specs.Natives.{native_classes, natives, class_of}
 use Rattle.nu_value.specs.Pairs.{PairList}
-use Rattle.op_rules.specs.declared.world.World.{World}
-use Rattle.op_rules.specs.Sound.{Sort, AClass, sort_of, IsA, IsIn, MayBeIn, AllIn, IsCell, AreCells, NamesIn, PairsIn, BaseIn, ObjectIn, SoundHeap, Sound}
+use Rattle.op_forms.specs.declared.world.World.{World}
+use Rattle.op_forms.specs.Sound.{Sort, AClass, sort_of, IsA, IsIn, MayBeIn, AllIn, IsCell, AreCells, NamesIn, PairsIn, BaseIn, ObjectIn, SoundHeap, Sound}
 
 -- ---- places of lists
 

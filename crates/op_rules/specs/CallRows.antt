@@ -7,8 +7,8 @@ use Rattle.nu_value.specs.declared.value.Value.{Value}
 use Rattle.nu_value.specs.declared.value.Value.TheVariants as value
 use Rattle.nu_value.specs.declared.object.Object.{Object}
 use Rattle.nu_value.specs.declared.object.Object.TheVariants as object
-use Rattle.op_rules.specs.declared.end.OpEnd.{OpEnd}
-use Rattle.op_rules.specs.declared.end.OpEnd.TheVariants as opend
+use Rattle.op_forms.specs.declared.end.OpEnd.{OpEnd}
+use Rattle.op_forms.specs.declared.end.OpEnd.TheVariants as opend
 use Rattle.op_rules.specs.Kinds.{kind_name, type_error}
 
 -- the text of a value

@@ -13,10 +13,10 @@ use Rattle.nu_value.specs.declared.same.Sameness.{Sameness}
 use Rattle.nu_value.specs.declared.same.Sameness.TheVariants as same
 use Rattle.nu_value.specs.Same.{eq, identical}
 use Rattle.nu_value.specs.Ranges.{range_count}
-use Rattle.op_rules.specs.declared.end.OpEnd.{OpEnd}
-use Rattle.op_rules.specs.declared.end.OpEnd.TheVariants as opend
-use Rattle.op_rules.specs.declared.op.Op.{Op}
-use Rattle.op_rules.specs.declared.op.Op.TheVariants as op
+use Rattle.op_forms.specs.declared.end.OpEnd.{OpEnd}
+use Rattle.op_forms.specs.declared.end.OpEnd.TheVariants as opend
+use Rattle.op_forms.specs.declared.op.Op.{Op}
+use Rattle.op_forms.specs.declared.op.Op.TheVariants as op
 
 abbrev pub give_bool : Bool → OpEnd
 give_bool b = opend.Give (value.Bool b)

@@ -6,13 +6,13 @@ use Rattle.nu_value.specs.declared.value.Value.TheVariants as value
 use Rattle.nu_value.specs.declared.object.Object.{Object}
 use Rattle.nu_value.specs.declared.object.Object.TheVariants as object
 use Rattle.nu_value.specs.Same.{number_of, object_of}
-use Rattle.op_rules.specs.declared.end.OpEnd.{OpEnd}
-use Rattle.op_rules.specs.declared.end.OpEnd.TheVariants as opend
-use Rattle.op_rules.specs.declared.end.After.{After}
-use Rattle.op_rules.specs.declared.end.After.TheVariants as after
-use Rattle.op_rules.specs.declared.world.World.{World}
+use Rattle.op_forms.specs.declared.end.OpEnd.{OpEnd}
+use Rattle.op_forms.specs.declared.end.OpEnd.TheVariants as opend
+use Rattle.op_forms.specs.declared.end.After.{After}
+use Rattle.op_forms.specs.declared.end.After.TheVariants as after
+use Rattle.op_forms.specs.declared.world.World.{World}
 use Rattle.op_rules.specs.Kinds.{type_error, value_error}
-use Rattle.op_rules.specs.NameRows.{Answer, keeps, later}
+use Rattle.op_forms.specs.Answers.{Answer, keeps, later}
 use Rattle.op_rules.specs.Comparisons.{give_bool}
 
 abbrev pub truth_after : Value → OpEnd

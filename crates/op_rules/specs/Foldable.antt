@@ -2,14 +2,15 @@
 use Rattle.std.specs.Prelude.{List, [], map, Option, Some, None, Bool, true, false, ◌&&◌, if◌then◌else◌}
 use Rattle.nu_value.specs.declared.value.Value.{Value}
 use Rattle.nu_value.specs.declared.value.Value.TheVariants as value
-use Rattle.op_rules.specs.declared.constant.Const.{Const}
-use Rattle.op_rules.specs.declared.constant.Const.TheVariants as const
-use Rattle.op_rules.specs.declared.end.OpEnd.{OpEnd}
-use Rattle.op_rules.specs.declared.end.OpEnd.TheVariants as opend
-use Rattle.op_rules.specs.declared.op.Op.{Op}
-use Rattle.op_rules.specs.declared.op.Op.TheVariants as op
-use Rattle.op_rules.specs.declared.world.World.{World}
-use Rattle.op_rules.specs.Fits.{fits}
+use Rattle.op_forms.specs.declared.constant.Const.{Const}
+use Rattle.op_forms.specs.declared.constant.Const.TheVariants as const
+use Rattle.op_forms.specs.declared.end.OpEnd.{OpEnd}
+use Rattle.op_forms.specs.declared.end.OpEnd.TheVariants as opend
+use Rattle.op_forms.specs.declared.op.Op.{Op}
+use Rattle.op_forms.specs.declared.op.Op.TheVariants as op
+use Rattle.op_forms.specs.declared.world.World.{World}
+use Rattle.op_forms.specs.Constants.{value_of}
+use Rattle.op_forms.specs.Fits.{fits}
 use Rattle.op_rules.specs.Table.{row}
 
 abbrev pub is_foldable : Op → Bool
@@ -39,12 +40,6 @@ is_foldable op.Inv = true
 is_foldable op.IAdd = true
 is_foldable op.IMul = true
 is_foldable other = false
-
-abbrev pub value_of : Const → Value
-value_of const.None = value.None
-value_of (const.Bool b) = value.Bool b
-value_of (const.Int z) = value.Int z
-value_of (const.Str text) = value.Str text
 
 -- an integer or a bool
 abbrev pub given : OpEnd → Option Const

@@ -3,12 +3,13 @@ use Rattle.std.specs.Prelude.{ℤ, List, [], ◌∷◌, Option, Some, None, Bool
 use Rattle.std.specs.Ordering.{int_cmp}
 use Rattle.std.specs.declared.cmp.Ordering.{Ordering}
 use Rattle.nu_value.specs.Same.{identical, number_of, numbers_eq}
-use Rattle.op_rules.specs.declared.constant.Const.{Const}
-use Rattle.op_rules.specs.declared.constant.Const.TheVariants as const
-use Rattle.op_rules.specs.declared.op.Op.{Op}
-use Rattle.op_rules.specs.declared.op.Op.TheVariants as op
+use Rattle.op_forms.specs.declared.constant.Const.{Const}
+use Rattle.op_forms.specs.declared.constant.Const.TheVariants as const
+use Rattle.op_forms.specs.declared.op.Op.{Op}
+use Rattle.op_forms.specs.declared.op.Op.TheVariants as op
 use Rattle.op_rules.specs.Comparisons.{holds, text_cmp, not_row, truth_row}
-use Rattle.op_rules.specs.Foldable.{given, value_of}
+use Rattle.op_forms.specs.Constants.{value_of}
+use Rattle.op_rules.specs.Foldable.{given}
 use Rattle.op_rules.specs.IntRows.{number_one, number_pair}
 
 abbrev pub const_eq : Const → Const → Bool

@@ -2,19 +2,15 @@
 use Rattle.std.specs.Prelude.{◌≡◌, List, true}
 use Rattle.nu_value.specs.declared.header.Header.{Header}
 use Rattle.nu_value.specs.declared.value.Value.{Value}
-use Rattle.op_rules.specs.declared.end.After.{After}
-use Rattle.op_rules.specs.declared.op.Op.{Op}
-use Rattle.op_rules.specs.declared.world.World.{World}
+use Rattle.op_forms.specs.declared.end.After.{After}
+use Rattle.op_forms.specs.declared.op.Op.{Op}
+use Rattle.op_forms.specs.declared.world.World.{World}
 use Rattle.op_rules.specs.Finish.{finished}
-use Rattle.op_rules.specs.Fits.{fits}
-use Rattle.op_rules.specs.NameRows.{Answer}
+use Rattle.op_forms.specs.Fits.{fits}
+use Rattle.op_forms.specs.Answers.{after}
 use Rattle.op_rules.specs.Table.{row}
 use Rattle.op_rules.specs.Start.{start_world}
-use Rattle.op_rules.specs.Sound.{Sound, IsIn, EndIn, AfterIn}
-
--- the world after an operation
-abbrev pub after : World → Answer → World
-after w answer = record w { heap = answer.heap }
+use Rattle.op_forms.specs.Sound.{Sound, IsIn, EndIn, AfterIn}
 
 -- a sound world stays sound, and what an operation ends with names only objects of it
 abbrev pub RowsKeepSound : Type 0

@@ -1,6 +1,3 @@
-pub mod Names
-pub mod Signature
-pub mod Signs
 pub mod Kinds
 pub mod Numbers
 pub mod Division
@@ -10,10 +7,9 @@ pub mod TextRows
 pub mod NameRows
 pub mod CallRows
 pub mod Table
-pub mod Fits
+pub mod TableRules
 pub mod Foldable
 pub mod Folding
 pub mod Start
 pub mod Finish
-pub mod Sound
 pub mod Laws

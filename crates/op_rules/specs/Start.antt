@@ -5,7 +5,7 @@ use Rattle.nu_value.specs.declared.object.Object.{Object}
 use Rattle.nu_value.specs.declared.object.Object.TheVariants as object
 use Rattle.nu_value.specs.declared.value.Value.TheVariants as value
 use Rattle.nu_value.specs.Natives.{native_classes}
-use Rattle.op_rules.specs.declared.world.World.{World}
+use Rattle.op_forms.specs.declared.world.World.{World}
 
 -- the built-in names, the native `print`, and the names of the module
 abbrev pub first_objects : List Object

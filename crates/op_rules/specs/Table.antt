@@ -1,16 +1,17 @@
 -- The table of operations: what each gives, raises, prints or stops with, and the objects after it.
-use Rattle.std.specs.Prelude.{List, [], ◌∷◌, Option, Some, Bool, true, false, slice_get}
+use Rattle.std.specs.Prelude.{List, [], ◌∷◌, Option, Some, slice_get}
 use Rattle.nu_value.specs.declared.value.Value.{Value}
 use Rattle.nu_value.specs.declared.value.Value.TheVariants as value
 use Rattle.nu_value.specs.declared.object.Object.{Object}
 use Rattle.nu_value.specs.declared.object.Object.TheVariants as object
-use Rattle.op_rules.specs.declared.end.OpEnd.{OpEnd}
+use Rattle.op_forms.specs.declared.end.OpEnd.{OpEnd}
 use Rattle.op_rules.specs.declared.family.Family.{Family}
 use Rattle.op_rules.specs.declared.family.Family.TheVariants as family
-use Rattle.op_rules.specs.declared.op.Op.{Op}
-use Rattle.op_rules.specs.declared.op.Op.TheVariants as op
-use Rattle.op_rules.specs.declared.world.World.{World}
-use Rattle.op_rules.specs.NameRows.{Answer, keeps, later, unbuilt, global_row, setglobal_row, delglobal_row, local_row, cell_row, cellset_row, cellget_row, celldel_row, freeget_row, freedel_row, of_name, of_name_value, of_value_name, of_none, of_two_values}
+use Rattle.op_forms.specs.declared.op.Op.{Op}
+use Rattle.op_forms.specs.declared.op.Op.TheVariants as op
+use Rattle.op_forms.specs.declared.world.World.{World}
+use Rattle.op_forms.specs.Answers.{Answer, keeps, later, unbuilt}
+use Rattle.op_rules.specs.NameRows.{global_row, setglobal_row, delglobal_row, local_row, cell_row, cellset_row, cellget_row, celldel_row, freeget_row, freedel_row, of_name, of_name_value, of_value_name, of_none, of_two_values}
 use Rattle.op_rules.specs.IntRows.{int_row}
 use Rattle.op_rules.specs.TextRows.{text_row}
 use Rattle.op_rules.specs.CallRows.{call_row}
@@ -96,44 +97,3 @@ row op.Not w args = keeps w.heap (int_row op.Not w.heap args)
 row op.Truth w args = keeps w.heap (int_row op.Truth w.heap args)
 row op.Call w args = keeps w.heap (call_row w.heap args)
 row other w args = later w.heap
-
--- which rows stand
-abbrev pub is_there : Op → Bool
-is_there op.Global = true
-is_there op.SetGlobal = true
-is_there op.DelGlobal = true
-is_there op.Local = true
-is_there op.Cell = true
-is_there op.CellSet = true
-is_there op.CellGet = true
-is_there op.CellDel = true
-is_there op.FreeGet = true
-is_there op.FreeDel = true
-is_there op.Add = true
-is_there op.Sub = true
-is_there op.Mul = true
-is_there op.FloorDiv = true
-is_there op.Mod = true
-is_there op.Pow = true
-is_there op.LShift = true
-is_there op.RShift = true
-is_there op.And = true
-is_there op.Or = true
-is_there op.Xor = true
-is_there op.Neg = true
-is_there op.Pos = true
-is_there op.Inv = true
-is_there op.IAdd = true
-is_there op.IMul = true
-is_there op.Lt = true
-is_there op.Le = true
-is_there op.Gt = true
-is_there op.Ge = true
-is_there op.Eq = true
-is_there op.Ne = true
-is_there op.Is = true
-is_there op.IsNot = true
-is_there op.Not = true
-is_there op.Truth = true
-is_there op.Call = true
-is_there other = false

@@ -6,12 +6,12 @@ use Rattle.nu_value.specs.declared.value.Value.{Value}
 use Rattle.nu_value.specs.declared.value.Value.TheVariants as value
 use Rattle.nu_value.specs.declared.object.Object.{Object}
 use Rattle.nu_value.specs.Same.{number_of}
-use Rattle.op_rules.specs.declared.end.OpEnd.{OpEnd}
-use Rattle.op_rules.specs.declared.end.OpEnd.TheVariants as opend
-use Rattle.op_rules.specs.declared.op.Op.{Op}
-use Rattle.op_rules.specs.declared.op.Op.TheVariants as op
+use Rattle.op_forms.specs.declared.end.OpEnd.{OpEnd}
+use Rattle.op_forms.specs.declared.end.OpEnd.TheVariants as opend
+use Rattle.op_forms.specs.declared.op.Op.{Op}
+use Rattle.op_forms.specs.declared.op.Op.TheVariants as op
 use Rattle.op_rules.specs.Kinds.{no_operand, no_operands, no_order}
-use Rattle.op_rules.specs.Signs.{sign_of}
+use Rattle.op_forms.specs.Signs.{sign_of}
 use Rattle.op_rules.specs.Comparisons.{give_bool, holds, text_cmp}
 use Rattle.op_rules.specs.IntRows.{of_one, of_two}
 

@@ -5,7 +5,7 @@ ghost use Rattle.std.specs.Int.{int_pow, is_negative};
 ghost use Rattle.op_rules.specs.Division.{quotient_by, rest_by};
 ghost use Rattle.op_rules.specs.Numbers as spec;
 
-use crate::op::Op;
+use op_forms::Op;
 
 /// What an operation on integers comes to.
 #[derive(Clone, Copy)]

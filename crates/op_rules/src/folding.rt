@@ -3,14 +3,14 @@
 ghost use Rattle.std.specs.Prelude.{◌≡◌, []};
 ghost use Rattle.nu_value.specs.Same.{identical, number_of};
 ghost use Rattle.op_rules.specs.Comparisons as comparisons;
-ghost use Rattle.op_rules.specs.Foldable.{folded, given, value_of};
+ghost use Rattle.op_forms.specs.Constants.{value_of};
+ghost use Rattle.op_rules.specs.Foldable.{folded, given};
 ghost use Rattle.op_rules.specs.Folding as spec;
 ghost use Rattle.op_rules.specs.IntRows as rows;
 ghost use Rattle.op_rules.specs.Numbers.{computed_end};
 
 use crate::arithmetic::{Computed, compute, compute_one};
-use crate::constant::Const;
-use crate::op::Op;
+use op_forms::{Const, Op};
 use std::cmp::Ordering;
 
 // The number that a constant counts as.

@@ -3,9 +3,9 @@
 ghost use Rattle.std.specs.Prelude.{◌≡◌, IfOk, slice_get};
 ghost use Rattle.op_rules.specs.Kinds as spec;
 
-use crate::end::OpEnd;
 use nu_text::RcStr;
 use nu_value::{Heap, Items, Object, Value};
+use op_forms::OpEnd;
 use std::alloc::{AllocError, Global};
 
 /// The name of a value's kind: that of its class.

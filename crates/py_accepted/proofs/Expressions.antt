@@ -3,9 +3,9 @@ use Rattle.std.proofs.Common.{◌≡◌, ℕ, suc, Bool, true, false, cond, List
 use Rattle.std.specs.List.{list_any}
 use Rattle.std.proofs.lemmas.Bool.{or_right}
 use Rattle.nu_value.specs.declared.value.Value.{Value}
-use Rattle.op_rules.specs.declared.op.Op.{Op}
-use Rattle.op_rules.specs.declared.op.Op.TheVariants as op
-use Rattle.op_rules.specs.declared.signature.ArgumentKind.TheVariants as operand
+use Rattle.op_forms.specs.declared.op.Op.{Op}
+use Rattle.op_forms.specs.declared.op.Op.TheVariants as op
+use Rattle.op_forms.specs.declared.signature.ArgumentKind.TheVariants as operand
 use Rattle.py_ast.specs.declared.expr.Unary.{Unary}
 use Rattle.py_ast.specs.declared.expr.Unary.TheVariants as unary
 use Rattle.py_ast.specs.declared.expr.Binary.{Binary}

@@ -1,7 +1,7 @@
 -- Functions and comprehensions of accepted scripts are lawful.
 use Rattle.std.proofs.Common.{◌≡◌, ℕ, suc, ◌+◌, not, List, [], ◌∷◌, map, Option, Some, ◌++◌, refl, ap, ◌∙◌, sym, subst, arith, append_assoc}
-use Rattle.op_rules.specs.declared.op.Op.{Op}
-use Rattle.op_rules.specs.declared.signature.ArgumentKind.TheVariants as operand
+use Rattle.op_forms.specs.declared.op.Op.{Op}
+use Rattle.op_forms.specs.declared.signature.ArgumentKind.TheVariants as operand
 use Rattle.py_ast.specs.declared.expr.Clause.{Clause}
 use Rattle.py_ast.specs.declared.expr.Param.{Param}
 use Rattle.py_ast.specs.declared.scoped.ScopeKind.{ScopeKind}

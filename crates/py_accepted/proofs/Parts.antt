@@ -1,7 +1,7 @@
 -- Lists of parts of expressions, as the survey and the codes have them.
 use Rattle.std.proofs.Common.{◌≡◌, ℕ, Bool, true, false, cond, List, [], ◌∷◌, length, map, Option, Some, None, refl, sym, subst, arith}
-use Rattle.op_rules.specs.declared.op.Op.{Op}
-use Rattle.op_rules.specs.declared.signature.ArgumentKind.TheVariants as operand
+use Rattle.op_forms.specs.declared.op.Op.{Op}
+use Rattle.op_forms.specs.declared.signature.ArgumentKind.TheVariants as operand
 use Rattle.py_ast.specs.declared.expr.Item.{Item}
 use Rattle.py_ast.specs.declared.expr.Item.TheVariants as item
 use Rattle.py_ast.specs.declared.expr.Param.{Param}

@@ -1,7 +1,7 @@
 -- Statements of accepted scripts are lawful.
 use Rattle.std.proofs.Common.{◌≡◌, ℕ, suc, ◌+◌, Bool, true, false, ◌||◌, List, [], ◌∷◌, ◌++◌, length, map, Option, Some, None, refl, ap, ◌∙◌, sym, subst, arith}
 use Rattle.std.specs.Prelude.{IsTrue}
-use Rattle.op_rules.specs.declared.signature.ArgumentKind.TheVariants as operand
+use Rattle.op_forms.specs.declared.signature.ArgumentKind.TheVariants as operand
 use Rattle.py_ast.specs.Lines.{line_of}
 use Rattle.py_ast.specs.declared.expr.Param.{Param}
 use Rattle.py_ast.specs.declared.expr.Param.TheVariants as param

@@ -1,7 +1,7 @@
 -- The codes of accepted scripts are lawful.
 use Rattle.std.specs.Prelude.{◌≡◌, ℕ, List, ◌++◌, length, Some, None, Ok, slice_get}
 use Rattle.nu_run.specs.Runs.{IsDefined}
-use Rattle.nu_calls.specs.Rules.{Rules}
+use Rattle.op_forms.specs.Rules.{Rules}
 use Rattle.py_ast.specs.declared.scoped.Scope.{Scope}
 use Rattle.py_ast.specs.declared.scoped.ScopeKind.{ScopeKind}
 use Rattle.py_ast.specs.declared.scoped.ScopeKind.TheVariants as kind

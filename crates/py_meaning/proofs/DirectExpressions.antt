@@ -1,7 +1,7 @@
 -- No step of a place in an expression leads through an item.
 use Rattle.std.proofs.Common.{ℕ, List, [], ◌∷◌, Option, Some, None, Bool, true, false}
 use Rattle.nu_value.specs.declared.value.Value.{Value}
-use Rattle.op_rules.specs.declared.op.Op.{Op}
+use Rattle.op_forms.specs.declared.op.Op.{Op}
 use Rattle.nu_rows.specs.Rows.{End, Next, Leave, Raised, Return, Stopped, Undefined}
 use Rattle.nu_rows.proofs.Direct.{Direct, act_direct, yield_direct, sub_direct, loop_direct, then_direct, value_direct, choose_direct, line_direct}
 use Rattle.nu_calls.specs.Calls.{operate, yields}

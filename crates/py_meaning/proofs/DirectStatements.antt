@@ -1,7 +1,7 @@
 -- No step of a place in a statement, or in the body of a code, leads through an item.
 use Rattle.std.proofs.Common.{ℕ, zero, suc, List, [], ◌∷◌, Option, Some, None}
 use Rattle.nu_value.specs.declared.value.Value.{Value}
-use Rattle.op_rules.specs.declared.op.Op.{Op}
+use Rattle.op_forms.specs.declared.op.Op.{Op}
 use Rattle.nu_rows.specs.Rows.{End, Next, Leave, Raised, Return, Stopped, Undefined}
 use Rattle.nu_rows.proofs.Direct.{Direct, act_direct, loop_direct, then_direct, value_direct, choose_direct}
 use Rattle.py_meaning.specs.Syntax as syntax

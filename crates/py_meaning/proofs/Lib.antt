@@ -1,4 +1,2 @@
 mod DirectExpressions
 mod DirectStatements
-mod Examples
-mod Calls

@@ -3,12 +3,12 @@ use Rattle.std.specs.Prelude.{ℕ, List, [], ◌∷◌, ◌++◌, map, length, r
 use Rattle.nu_run.specs.Runs.{Run}
 use Rattle.nu_value.specs.declared.value.Value.{Value}
 use Rattle.nu_value.specs.declared.value.Value.TheVariants as value
-use Rattle.op_rules.specs.declared.op.Op.{Op}
-use Rattle.op_rules.specs.declared.op.Op.TheVariants as op
+use Rattle.op_forms.specs.declared.op.Op.{Op}
+use Rattle.op_forms.specs.declared.op.Op.TheVariants as op
 use Rattle.nu_rows.specs.Rows.{Leave, Undefined, Loop}
 use Rattle.nu_rows.specs.Words.{then_value, ends_with, choose}
 use Rattle.nu_calls.specs.Calls.{operate, yields}
-use Rattle.nu_calls.specs.Rules.{Rules}
+use Rattle.op_forms.specs.Rules.{Rules}
 use Rattle.nu_calls.specs.Scripts.{Program, program_run}
 use Rattle.py_meaning.specs.Syntax as syntax
 use Rattle.py_meaning.specs.Frames.{Frame, Item, OfCode, WhileTurn, ForTurn, CollectTurn, DelegateTurn, R, L, at, reads, uses, changes, with_own}

@@ -4,7 +4,7 @@ use Rattle.nu_run.specs.Runs.{IsMonotone}
 use Rattle.nu_rows.specs.Rows.{Step, How, Begin, Back, does}
 use Rattle.nu_rows.specs.Places.{part_at, rest_of, IsFirstPart}
 use Rattle.nu_calls.specs.Calls.{State}
-use Rattle.nu_calls.specs.Rules.{Rules}
+use Rattle.op_forms.specs.Rules.{Rules}
 use Rattle.py_ast.specs.declared.scoped.Scoped.{Scoped}
 use Rattle.py_meaning.specs.Syntax.{Expression, Block, Code}
 use Rattle.py_meaning.specs.Frames.{Frame, Item, R, L}

@@ -1,7 +1,7 @@
 -- What a script means: the run of the built-in text, if there is one, and then of the script.
 use Rattle.std.specs.Prelude.{ℕ, List, ◌++◌, length, Option, Some, None}
 use Rattle.nu_run.specs.Runs.{Run}
-use Rattle.nu_calls.specs.Rules.{Rules}
+use Rattle.op_forms.specs.Rules.{Rules}
 use Rattle.py_ast.specs.declared.scoped.Scoped.{Scoped}
 use Rattle.py_meaning.specs.Syntax as syntax
 use Rattle.py_meaning.specs.Bodies.{codes_run}

@@ -3,7 +3,7 @@
 use Rattle.std.specs.Prelude.{ℕ, List, Option, Bool}
 use Rattle.nu_value.specs.declared.header.Header.{Header}
 use Rattle.nu_value.specs.declared.value.Value.{Value}
-use Rattle.op_rules.specs.declared.op.Op.{Op}
+use Rattle.op_forms.specs.declared.op.Op.{Op}
 
 -- where a name lives (reference, section 4.2): in a local variable of the frame; in a cell of the frame, since an inner scope uses it;
 -- in a cell of an enclosing function; in the module; in the class whose block runs

@@ -10,11 +10,11 @@ use Rattle.nu_value.specs.declared.object.Object.{Object}
 use Rattle.nu_value.specs.declared.object.Object.TheVariants as object
 use Rattle.nu_value.specs.declared.value.Value.{Value}
 use Rattle.nu_value.specs.declared.value.Value.TheVariants as value
-use Rattle.op_rules.specs.declared.end.After.{After}
-use Rattle.op_rules.specs.declared.end.How as op_how
-use Rattle.op_rules.specs.declared.end.How.TheVariants as how
-use Rattle.op_rules.specs.declared.end.OpEnd.{OpEnd}
-use Rattle.op_rules.specs.declared.end.OpEnd.TheVariants as opend
+use Rattle.op_forms.specs.declared.end.After.{After}
+use Rattle.op_forms.specs.declared.end.How as op_how
+use Rattle.op_forms.specs.declared.end.How.TheVariants as how
+use Rattle.op_forms.specs.declared.end.OpEnd.{OpEnd}
+use Rattle.op_forms.specs.declared.end.OpEnd.TheVariants as opend
 use Rattle.nu_rows.specs.Rows.{Next, Raised, Stopped, How, Send, Throw, Res, entered, run}
 use Rattle.nu_calls.specs.Exceptions.{Thrown, exception_made}
 use Rattle.nu_calls.specs.Lines.{NextLine, ALine, NoLine, BadLine, line_of}

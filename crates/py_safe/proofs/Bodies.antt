@@ -8,7 +8,7 @@ use Rattle.nu_value.specs.declared.object.GenState.TheVariants as gen
 use Rattle.nu_value.specs.declared.object.Object.{Object}
 use Rattle.nu_value.specs.declared.object.Object.TheVariants as object
 use Rattle.nu_value.specs.declared.value.Value.{Value}
-use Rattle.op_rules.specs.declared.end.After.{After}
+use Rattle.op_forms.specs.declared.end.After.{After}
 use Rattle.nu_rows.specs.Rows.{Next, Step, How, Begin, Back, Res, Spent, Paused, Ended, left_by, entered, run}
 use Rattle.nu_calls.specs.Surroundings.{Scene, kept_at, keep_at, with_kept}
 use Rattle.nu_calls.specs.Ends.{runtime_error, state_set, with_state, paused_with}

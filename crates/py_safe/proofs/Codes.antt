@@ -4,8 +4,8 @@ use Rattle.std.specs.Prelude.{slice_get}
 use Rattle.nu_value.specs.declared.object.Object.{Object}
 use Rattle.nu_value.specs.declared.value.Value.{Value}
 use Rattle.nu_value.specs.declared.value.Value.TheVariants as value
-use Rattle.op_rules.specs.declared.op.Op.TheVariants as op
-use Rattle.op_rules.specs.Sound.{IsCell, AreCells}
+use Rattle.op_forms.specs.declared.op.Op.TheVariants as op
+use Rattle.op_forms.specs.Sound.{IsCell, AreCells}
 use Rattle.nu_calls.specs.Calls.{operate}
 use Rattle.py_meaning.specs.Syntax as syntax
 use Rattle.py_meaning.specs.Frames.{Frame, R as Rw, with_own}

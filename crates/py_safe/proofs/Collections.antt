@@ -6,10 +6,10 @@ use Rattle.nu_value.specs.declared.object.Object.TheVariants as object
 use Rattle.nu_value.specs.declared.value.Value.{Value}
 use Rattle.nu_value.specs.declared.value.Value.TheVariants as value
 use Rattle.nu_value.specs.Same.{object_of}
-use Rattle.op_rules.specs.declared.op.Op.TheVariants as op
-use Rattle.op_rules.specs.declared.signature.ArgumentKind.TheVariants as kind
-use Rattle.op_rules.specs.declared.world.World.{World}
-use Rattle.op_rules.specs.Fits.{is_of, is_dict}
+use Rattle.op_forms.specs.declared.op.Op.TheVariants as op
+use Rattle.op_forms.specs.declared.signature.ArgumentKind.TheVariants as kind
+use Rattle.op_forms.specs.declared.world.World.{World}
+use Rattle.op_forms.specs.Fits.{is_of, is_dict}
 use Rattle.nu_calls.specs.Calls.{operate}
 use Rattle.py_meaning.specs.Frames.{R as Rw}
 use Rattle.py_meaning.specs.Expressions.{as_tuple, keywords_begun}

@@ -3,13 +3,13 @@ use Rattle.std.proofs.Common.{◌≡◌, ℕ, List, [], ◌∷◌, Option, Some,
 use Rattle.nu_value.specs.declared.value.Value.{Value}
 use Rattle.nu_value.specs.declared.value.Value.TheVariants as value
 use Rattle.nu_value.specs.View.{is_text}
-use Rattle.op_rules.specs.declared.op.Op.{Op}
-use Rattle.op_rules.specs.declared.op.Op.TheVariants as op
-use Rattle.op_rules.specs.declared.signature.ArgumentKind.{ArgumentKind}
-use Rattle.op_rules.specs.declared.signature.ArgumentKind.TheVariants as kind
-use Rattle.op_rules.specs.declared.world.World.{World}
-use Rattle.op_rules.specs.Fits.{is_bool, is_of, fit}
-use Rattle.op_rules.specs.Signature.{arguments, further}
+use Rattle.op_forms.specs.declared.op.Op.{Op}
+use Rattle.op_forms.specs.declared.op.Op.TheVariants as op
+use Rattle.op_forms.specs.declared.signature.ArgumentKind.{ArgumentKind}
+use Rattle.op_forms.specs.declared.signature.ArgumentKind.TheVariants as kind
+use Rattle.op_forms.specs.declared.world.World.{World}
+use Rattle.op_forms.specs.Fits.{is_bool, is_of, fit}
+use Rattle.op_forms.specs.Signature.{arguments, further}
 use Rattle.nu_rows.specs.Rows.{Next}
 use Rattle.nu_rows.specs.Words.{choose}
 use Rattle.nu_calls.specs.Calls.{operate}

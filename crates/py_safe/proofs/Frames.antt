@@ -8,7 +8,7 @@ use Rattle.nu_value.specs.declared.object.Object.{Object}
 use Rattle.nu_value.specs.declared.object.Object.TheVariants as object
 use Rattle.nu_value.specs.declared.value.Value.{Value}
 use Rattle.nu_value.specs.declared.value.Value.TheVariants as value
-use Rattle.op_rules.specs.Sound.{ASpace as SpaceSort, sort_of, AreCells}
+use Rattle.op_forms.specs.Sound.{ASpace as SpaceSort, sort_of, AreCells}
 use Rattle.py_meaning.specs.Syntax as syntax
 use Rattle.py_meaning.specs.Frames.{Frame, at}
 use Rattle.py_meaning.specs.Bodies.{begun_frame}

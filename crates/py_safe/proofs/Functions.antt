@@ -2,10 +2,10 @@
 use Rattle.std.proofs.Common.{◌≡◌, ℕ, List, [], ◌∷◌, true, refl, arith}
 use Rattle.std.specs.List.{list_all}
 use Rattle.nu_value.specs.declared.value.Value.{Value}
-use Rattle.op_rules.specs.declared.op.Op.TheVariants as op
-use Rattle.op_rules.specs.declared.signature.ArgumentKind.TheVariants as kind
-use Rattle.op_rules.specs.declared.world.World.{World}
-use Rattle.op_rules.specs.Fits.{is_of}
+use Rattle.op_forms.specs.declared.op.Op.TheVariants as op
+use Rattle.op_forms.specs.declared.signature.ArgumentKind.TheVariants as kind
+use Rattle.op_forms.specs.declared.world.World.{World}
+use Rattle.op_forms.specs.Fits.{is_of}
 use Rattle.nu_rows.specs.Words.{then_value}
 use Rattle.nu_calls.specs.Calls.{operate}
 use Rattle.py_meaning.specs.Syntax as syntax

@@ -9,10 +9,10 @@ use Rattle.nu_value.specs.declared.value.Value.{Value}
 use Rattle.nu_value.specs.declared.value.Value.TheVariants as value
 use Rattle.nu_value.specs.Names.{NameList}
 use Rattle.nu_value.specs.Pairs.{PairList}
-use Rattle.op_rules.specs.declared.end.After.{After}
-use Rattle.op_rules.specs.declared.end.After.TheVariants as behind
-use Rattle.op_rules.specs.Fits.{is_in}
-use Rattle.op_rules.specs.Sound.{Sort, ADict as DictSort, AFunction as FunctionSort, AClass as ClassSort, AGenerator as GeneratorSort, ACell as CellSort, ASpace as SpaceSort, AnException, Another as OtherSort, sort_of, IsA, IsIn, MayBeIn, AllIn, IsCell, AreCells, NamesIn, PairsIn, BaseIn, ObjectIn}
+use Rattle.op_forms.specs.declared.end.After.{After}
+use Rattle.op_forms.specs.declared.end.After.TheVariants as behind
+use Rattle.op_forms.specs.Fits.{is_in}
+use Rattle.op_forms.specs.Sound.{Sort, ADict as DictSort, AFunction as FunctionSort, AClass as ClassSort, AGenerator as GeneratorSort, ACell as CellSort, ASpace as SpaceSort, AnException, Another as OtherSort, sort_of, IsA, IsIn, MayBeIn, AllIn, IsCell, AreCells, NamesIn, PairsIn, BaseIn, ObjectIn}
 use Rattle.nu_rows.specs.Rows.{How, Send, Throw}
 use Rattle.nu_calls.specs.Calls.{Pause}
 use Rattle.py_meaning.specs.Frames.{Frame, at}

@@ -10,14 +10,14 @@ use Rattle.nu_value.specs.declared.object.Object.TheVariants as object
 use Rattle.nu_value.specs.declared.value.Value.{Value}
 use Rattle.nu_value.specs.declared.value.Value.TheVariants as value
 use Rattle.nu_value.specs.Same.{object_of}
-use Rattle.op_rules.specs.declared.end.OpEnd.{OpEnd}
-use Rattle.op_rules.specs.declared.end.OpEnd.TheVariants as opend
-use Rattle.op_rules.specs.declared.op.Op.TheVariants as op
-use Rattle.op_rules.specs.declared.signature.ArgumentKind.TheVariants as kind
-use Rattle.op_rules.specs.declared.world.World.{World}
-use Rattle.op_rules.specs.Fits.{is_of, is_tuple, is_dict, are_keywords, fits as args_fit}
-use Rattle.op_rules.specs.NameRows.{Answer}
-use Rattle.op_rules.specs.Sound.{ASpace as SpaceSort, IsA, AreCells, ObjectIn}
+use Rattle.op_forms.specs.declared.end.OpEnd.{OpEnd}
+use Rattle.op_forms.specs.declared.end.OpEnd.TheVariants as opend
+use Rattle.op_forms.specs.declared.op.Op.TheVariants as op
+use Rattle.op_forms.specs.declared.signature.ArgumentKind.TheVariants as kind
+use Rattle.op_forms.specs.declared.world.World.{World}
+use Rattle.op_forms.specs.Fits.{is_of, is_tuple, is_dict, are_keywords, fits as args_fit}
+use Rattle.op_forms.specs.Answers.{Answer}
+use Rattle.op_forms.specs.Sound.{ASpace as SpaceSort, IsA, AreCells, ObjectIn}
 use Rattle.nu_rows.specs.Rows.{Next, entered, run}
 use Rattle.nu_calls.specs.Surroundings.{Scene, scene, with_heap}
 use Rattle.nu_calls.specs.Ends.{begun, begun_by}

@@ -11,13 +11,12 @@ mod Exceptions
 mod Expressions
 mod Frames
 mod Functions
-mod Growth
+pub mod Growth
 mod Handing
 mod Modules
 mod Names
 mod Operations
 mod Passing
-mod Plain
 mod Raised
 mod Reports
 pub mod Right
@@ -25,6 +24,5 @@ pub mod Rows
 mod Runs
 mod Scenes
 mod Statements
-mod Table
 mod Targets
-mod Worlds
+pub mod Worlds

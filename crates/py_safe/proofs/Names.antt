@@ -6,12 +6,12 @@ use Rattle.nu_value.specs.declared.object.Object.TheVariants as object
 use Rattle.nu_value.specs.declared.value.Value.{Value}
 use Rattle.nu_value.specs.declared.value.Value.TheVariants as value
 use Rattle.nu_value.specs.Same.{object_of}
-use Rattle.op_rules.specs.declared.op.Op.{Op}
-use Rattle.op_rules.specs.declared.op.Op.TheVariants as op
-use Rattle.op_rules.specs.declared.signature.ArgumentKind.TheVariants as kind
-use Rattle.op_rules.specs.declared.world.World.{World}
-use Rattle.op_rules.specs.Fits.{is_of, is_cell, is_list, is_space}
-use Rattle.op_rules.specs.Sound.{ACell, sort_of, IsCell, AreCells}
+use Rattle.op_forms.specs.declared.op.Op.{Op}
+use Rattle.op_forms.specs.declared.op.Op.TheVariants as op
+use Rattle.op_forms.specs.declared.signature.ArgumentKind.TheVariants as kind
+use Rattle.op_forms.specs.declared.world.World.{World}
+use Rattle.op_forms.specs.Fits.{is_of, is_cell, is_list, is_space}
+use Rattle.op_forms.specs.Sound.{ACell, sort_of, IsCell, AreCells}
 use Rattle.nu_rows.specs.Words.{then_value}
 use Rattle.nu_calls.specs.Calls.{operate}
 use Rattle.py_meaning.specs.Syntax as syntax

@@ -7,8 +7,8 @@ use Rattle.nu_value.specs.declared.object.Object.{Object}
 use Rattle.nu_value.specs.declared.object.Object.TheVariants as object
 use Rattle.nu_value.specs.declared.value.Value.{Value}
 use Rattle.nu_value.specs.Natives.{native_classes}
-use Rattle.op_rules.specs.declared.world.World.{World}
-use Rattle.op_rules.specs.Sound.{AClass, AnException, sort_of, IsA}
+use Rattle.op_forms.specs.declared.world.World.{World}
+use Rattle.op_forms.specs.Sound.{AClass, AnException, sort_of, IsA}
 use Rattle.nu_calls.specs.Exceptions.{Thrown, made_of, exception_made, entered, put_back, with_entry}
 use Rattle.nu_calls.specs.Surroundings.{world_with}
 use Rattle.py_safe.specs.Rosters.{Roster}

@@ -8,13 +8,13 @@ use Rattle.nu_value.specs.declared.object.Object.TheVariants as object
 use Rattle.nu_value.specs.declared.value.Value.{Value}
 use Rattle.nu_value.specs.declared.value.Value.TheVariants as value
 use Rattle.nu_value.specs.Names.{NameList, place_of}
-use Rattle.op_rules.specs.declared.end.After.{After}
-use Rattle.op_rules.specs.declared.end.After.TheVariants as behind
-use Rattle.op_rules.specs.declared.end.OpEnd.{OpEnd}
-use Rattle.op_rules.specs.declared.end.OpEnd.TheVariants as opend
-use Rattle.op_rules.specs.declared.world.World.{World}
-use Rattle.op_rules.specs.NameRows.{names_of}
-use Rattle.op_rules.specs.Sound.{NamesIn, ObjectIn}
+use Rattle.op_forms.specs.declared.end.After.{After}
+use Rattle.op_forms.specs.declared.end.After.TheVariants as behind
+use Rattle.op_forms.specs.declared.end.OpEnd.{OpEnd}
+use Rattle.op_forms.specs.declared.end.OpEnd.TheVariants as opend
+use Rattle.op_forms.specs.declared.world.World.{World}
+use Rattle.op_forms.specs.Answers.{names_of}
+use Rattle.op_forms.specs.Sound.{NamesIn, ObjectIn}
 use Rattle.nu_rows.specs.Rows.{End, Next, Leave, Raised, Return, Stopped, Undefined, Step, Second, Begin, Res, Spent, Paused, Ended, shift, after, left_by, entered, run, does}
 use Rattle.nu_rows.specs.Words.{ends_with}
 use Rattle.nu_calls.specs.Surroundings.{Scene, scene, with_heap}

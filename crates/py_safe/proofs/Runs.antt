@@ -10,7 +10,7 @@ use Rattle.nu_value.specs.declared.value.Value.TheVariants as value
 use Rattle.nu_rows.specs.Rows.{Next, Undefined, Begin, Res, Spent, Paused, Ended, does}
 use Rattle.nu_rows.specs.Words.{ends_with}
 use Rattle.nu_rows.specs.Driver.{told}
-use Rattle.nu_calls.specs.Rules.{Rules}
+use Rattle.op_forms.specs.Rules.{Rules}
 use Rattle.nu_calls.specs.Scripts.{module_row, script_row, main_row, shows, start_state}
 use Rattle.py_meaning.specs.Syntax as syntax
 use Rattle.py_meaning.specs.Bodies.{program, codes_run}

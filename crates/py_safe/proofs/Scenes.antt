@@ -8,12 +8,12 @@ use Rattle.nu_value.specs.declared.object.Object.TheVariants as object
 use Rattle.nu_value.specs.declared.value.Value.{Value}
 use Rattle.nu_value.specs.declared.value.Value.TheVariants as value
 use Rattle.nu_value.specs.Natives.{native_classes}
-use Rattle.op_rules.specs.declared.end.After.{After}
-use Rattle.op_rules.specs.declared.end.OpEnd.{OpEnd}
-use Rattle.op_rules.specs.declared.end.OpEnd.TheVariants as opend
-use Rattle.op_rules.specs.declared.world.World.{World}
-use Rattle.op_rules.specs.NameRows.{Answer}
-use Rattle.op_rules.specs.Sound.{ASpace as SpaceSort, IsA}
+use Rattle.op_forms.specs.declared.end.After.{After}
+use Rattle.op_forms.specs.declared.end.OpEnd.{OpEnd}
+use Rattle.op_forms.specs.declared.end.OpEnd.TheVariants as opend
+use Rattle.op_forms.specs.declared.world.World.{World}
+use Rattle.op_forms.specs.Answers.{Answer}
+use Rattle.op_forms.specs.Sound.{ASpace as SpaceSort, IsA}
 use Rattle.nu_rows.specs.Rows.{End, Next, Leave, Raised, Return, Stopped, Undefined}
 use Rattle.nu_calls.specs.Exceptions.{Thrown, exception_made, is_kind}
 use Rattle.nu_calls.specs.Surroundings.{Scene, with_heap, kept_at}

@@ -2,7 +2,7 @@
 use Rattle.std.proofs.Common.{ℕ, [], Option, Bool, true, false, refl, arith, Some, None}
 use Rattle.std.specs.Prelude.{IsTrue}
 use Rattle.nu_value.specs.declared.value.Value.TheVariants as value
-use Rattle.op_rules.specs.declared.signature.ArgumentKind.TheVariants as kind
+use Rattle.op_forms.specs.declared.signature.ArgumentKind.TheVariants as kind
 use Rattle.nu_rows.specs.Rows.{End, Next, Leave, Raised, Return, Stopped, Undefined}
 use Rattle.nu_rows.specs.Words.{then_value, choose}
 use Rattle.py_meaning.specs.Syntax as syntax

@@ -12,11 +12,11 @@ use Rattle.nu_value.specs.declared.object.Object.TheVariants as object
 use Rattle.nu_value.specs.declared.natives.Native.{Native}
 use Rattle.nu_value.specs.declared.value.Value.{Value}
 use Rattle.nu_value.specs.Natives.{native_classes, natives, class_of}
-use Rattle.op_rules.specs.declared.world.World.{World}
-use Rattle.op_rules.specs.Fits.{are_keywords}
-use Rattle.op_rules.specs.Laws.{after}
-use Rattle.op_rules.specs.NameRows.{Answer}
-use Rattle.op_rules.specs.Sound.{Sort, ADict as DictSort, AFunction as FunctionSort, AClass as ClassSort, AGenerator as GeneratorSort, ASpace as SpaceSort, Another as OtherSort, sort_of, IsA, ObjectIn, SoundHeap, Sound}
+use Rattle.op_forms.specs.declared.world.World.{World}
+use Rattle.op_forms.specs.Fits.{are_keywords}
+use Rattle.op_forms.specs.Answers.{after}
+use Rattle.op_forms.specs.Answers.{Answer}
+use Rattle.op_forms.specs.Sound.{Sort, ADict as DictSort, AFunction as FunctionSort, AClass as ClassSort, AGenerator as GeneratorSort, ASpace as SpaceSort, Another as OtherSort, sort_of, IsA, ObjectIn, SoundHeap, Sound}
 use Rattle.nu_calls.specs.Ends.{state_set}
 use Rattle.nu_calls.specs.Surroundings.{world_with}
 use Rattle.py_safe.specs.Rosters.{Roster}

@@ -3,11 +3,11 @@
 use Rattle.std.specs.Prelude.{◌≡◌, ℕ, ◌<◌, ◌≤◌, Bool, true, false, IsTrue, List, [], ◌∷◌, length, Option, Some, None, slice_get}
 use Rattle.nu_value.specs.declared.value.Value.{Value}
 use Rattle.nu_value.specs.declared.value.Value.TheVariants as value
-use Rattle.op_rules.specs.declared.op.Op.{Op}
-use Rattle.op_rules.specs.declared.op.Op.TheVariants as op
-use Rattle.op_rules.specs.declared.signature.ArgumentKind.{ArgumentKind}
-use Rattle.op_rules.specs.declared.signature.ArgumentKind.TheVariants as kind
-use Rattle.op_rules.specs.Signature.{arguments, further}
+use Rattle.op_forms.specs.declared.op.Op.{Op}
+use Rattle.op_forms.specs.declared.op.Op.TheVariants as op
+use Rattle.op_forms.specs.declared.signature.ArgumentKind.{ArgumentKind}
+use Rattle.op_forms.specs.declared.signature.ArgumentKind.TheVariants as kind
+use Rattle.op_forms.specs.Signature.{arguments, further}
 use Rattle.py_meaning.specs.Syntax as syntax
 use Rattle.py_safe.specs.Rosters.{Role, OfModule, OfFunction, OfClass, Roster, roster_of, IsBlock, IsCode}
 use Rattle.py_safe.specs.Rules.{GivesTruth}

@@ -9,8 +9,8 @@ use Rattle.nu_value.specs.declared.value.Value.{Value}
 use Rattle.nu_value.specs.declared.value.Value.TheVariants as value
 use Rattle.nu_value.specs.Names.{NameList}
 use Rattle.nu_value.specs.Pairs.{PairList}
-use Rattle.op_rules.specs.Fits.{are_keywords}
-use Rattle.op_rules.specs.Sound.{AnException, IsA, IsIn}
+use Rattle.op_forms.specs.Fits.{are_keywords}
+use Rattle.op_forms.specs.Sound.{AnException, IsA, IsIn}
 use Rattle.py_safe.specs.Rosters.{Role, OfFunction, OfClass, Roster}
 
 -- an object may be named by any other; or it collects the keywords of a call or a definition, or is the function of a class's block,

@@ -1,16 +1,12 @@
 -- No run of lawful codes ends Undefined.
 use Rattle.std.specs.Prelude.{ℕ, List}
 use Rattle.nu_run.specs.Runs.{Run, Same, IsDefined}
-use Rattle.nu_calls.specs.Rules.{Rules, table_rules}
+use Rattle.op_forms.specs.Rules.{Rules}
 use Rattle.py_meaning.specs.Syntax as syntax
 use Rattle.py_meaning.specs.Bodies.{codes_run}
 use Rattle.py_safe.specs.Rosters.{Role}
 use Rattle.py_safe.specs.Rules.{KeepsLaw}
 use Rattle.py_safe.specs.Constructs.{LawfulCodes}
-
--- the table of operations keeps law
-abbrev pub TheTableKeepsLaw : Type 0
-TheTableKeepsLaw = KeepsLaw table_rules
 
 pub record RunsNeverEndUndefined : Type 0 where
   -- codes, of which so many are the script's, under rules that keep law

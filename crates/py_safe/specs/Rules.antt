@@ -7,20 +7,20 @@ use Rattle.nu_value.specs.declared.object.Object.TheVariants as object
 use Rattle.nu_value.specs.declared.value.Value.{Value}
 use Rattle.nu_value.specs.declared.value.Value.TheVariants as value
 use Rattle.nu_value.specs.Names.{NameList}
-use Rattle.op_rules.specs.declared.end.After.{After}
-use Rattle.op_rules.specs.declared.end.After.TheVariants as behind
-use Rattle.op_rules.specs.declared.end.How.{How}
-use Rattle.op_rules.specs.declared.end.How.TheVariants as how
-use Rattle.op_rules.specs.declared.end.OpEnd.{OpEnd}
-use Rattle.op_rules.specs.declared.end.OpEnd.TheVariants as opend
-use Rattle.op_rules.specs.declared.op.Op.{Op}
-use Rattle.op_rules.specs.declared.op.Op.TheVariants as op
-use Rattle.op_rules.specs.declared.world.World.{World}
-use Rattle.op_rules.specs.Fits.{fits as args_fit}
-use Rattle.op_rules.specs.Laws.{after}
-use Rattle.op_rules.specs.NameRows.{Answer}
-use Rattle.op_rules.specs.Sound.{AClass, AnException, ASpace as Space, IsA, ObjectIn, Sound}
-use Rattle.nu_calls.specs.Rules.{Rules}
+use Rattle.op_forms.specs.declared.end.After.{After}
+use Rattle.op_forms.specs.declared.end.After.TheVariants as behind
+use Rattle.op_forms.specs.declared.end.How.{How}
+use Rattle.op_forms.specs.declared.end.How.TheVariants as how
+use Rattle.op_forms.specs.declared.end.OpEnd.{OpEnd}
+use Rattle.op_forms.specs.declared.end.OpEnd.TheVariants as opend
+use Rattle.op_forms.specs.declared.op.Op.{Op}
+use Rattle.op_forms.specs.declared.op.Op.TheVariants as op
+use Rattle.op_forms.specs.declared.world.World.{World}
+use Rattle.op_forms.specs.Fits.{fits as args_fit}
+use Rattle.op_forms.specs.Answers.{after}
+use Rattle.op_forms.specs.Answers.{Answer}
+use Rattle.op_forms.specs.Sound.{AClass, AnException, ASpace as Space, IsA, ObjectIn, Sound}
+use Rattle.op_forms.specs.Rules.{Rules}
 use Rattle.py_safe.specs.Rosters.{HasBlocks, Role, OfFunction, OfClass, Roster}
 use Rattle.py_safe.specs.Heaps.{Mark, Open, Block, View, view, Nature, AList, ATuple, ADict, AGenerator, ACell, ASpace, AnError, nature_of, Grows, IsOpen, AllOpen, ObjectOpen, Takes, HeapLaw, KeepsGenerators, IsThere, AllThere, IsThrown, IsLoose}
 

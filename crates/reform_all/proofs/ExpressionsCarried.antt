@@ -2,10 +2,10 @@
 use Rattle.std.proofs.Common.{◌≡◌, ◌≢◌, inl, ℕ, ℤ, ◌+◌, ◌≤◌, Bool, true, false, not, if◌then◌else◌, List, [], ◌∷◌, ◌++◌, map, length, get_or, ◌<◌, Option, Some, None, Result, Ok, Err, refl, sym, ap, ◌∙◌, subst, arith}
 use Rattle.std.proofs.Math.Nat.{le_refl}
 use Rattle.std.specs.Result.{IsErrAnd}
-use Rattle.op_rules.specs.declared.constant.Const.{Const}
-use Rattle.op_rules.specs.declared.op.Op.{Op}
-use Rattle.op_rules.specs.declared.op.Op.TheVariants as op
-use Rattle.op_rules.specs.Foldable.{value_of}
+use Rattle.op_forms.specs.declared.constant.Const.{Const}
+use Rattle.op_forms.specs.declared.op.Op.{Op}
+use Rattle.op_forms.specs.declared.op.Op.TheVariants as op
+use Rattle.op_forms.specs.Constants.{value_of}
 use Rattle.py_ast.specs.declared.expr.Argument as an_argument
 use Rattle.py_ast.specs.declared.expr.Argument.TheVariants as argument
 use Rattle.py_ast.specs.declared.expr.Binary.{Binary}

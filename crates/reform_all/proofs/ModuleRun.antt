@@ -4,7 +4,7 @@ use Rattle.std.specs.Prelude.{slice_get}
 use Rattle.nu_run.specs.Runs.{Same}
 use Rattle.nu_value.specs.declared.header.Header.{Header}
 use Rattle.nu_value.specs.declared.value.Value.{Value}
-use Rattle.nu_calls.specs.Rules.{Rules}
+use Rattle.op_forms.specs.Rules.{Rules}
 use Rattle.py_ast.specs.declared.scoped.Scope.{Scope}
 use Rattle.py_ast.specs.declared.scoped.Scoped.{Scoped}
 use Rattle.node_tree.specs.declared.node.Node.{Node}

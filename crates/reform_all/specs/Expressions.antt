@@ -1,6 +1,6 @@
 -- What an expression becomes.
 use Rattle.std.specs.Prelude.{◌≡◌, ℕ, ◌+◌, ◌≤◌, Bool, false, List, Option, Some, None, Result, Ok, Err}
-use Rattle.op_rules.specs.declared.op.Op.{Op}
+use Rattle.op_forms.specs.declared.op.Op.{Op}
 use Rattle.py_ast.specs.declared.expr.Expr.{Expr}
 use Rattle.node_tree.specs.Blocks as tree
 use Rattle.node_tree.specs.Contents.{total, yields}

@@ -3,7 +3,7 @@ use Rattle.std.specs.Prelude.{◌≡◌, ℕ, List, [], ◌∷◌, map, length, 
 use Rattle.std.specs.List.{AllByRecursion}
 use Rattle.nu_run.specs.Runs.{Same}
 use Rattle.nu_value.specs.declared.header.Header.{Header}
-use Rattle.nu_calls.specs.Rules.{Rules}
+use Rattle.op_forms.specs.Rules.{Rules}
 use Rattle.py_ast.specs.declared.scoped.Scoped.{Scoped}
 use Rattle.py_meaning.specs.Script.{py_run, all_codes}
 use Rattle.node_tree.specs.declared.script.NodeScript.{NodeScript}

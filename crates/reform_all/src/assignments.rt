@@ -9,7 +9,7 @@ use crate::bound::Bound;
 use crate::ending::ReformEnd;
 use crate::expressions::expression;
 use node_tree::{Block, Operand, Temps};
-use op_rules::Op;
+use op_forms::Op;
 use py_ast::{Binary, Expr};
 use reform_base::{Part, joined};
 use reform_expr::Home;

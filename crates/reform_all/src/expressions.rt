@@ -1,7 +1,7 @@
 //! Expressions.
 
 ghost use Rattle.std.specs.Prelude.{◌≡◌, ℕ, List, [], ◌∷◌, IfOk};
-ghost use Rattle.op_rules.specs.declared.op.Op.TheVariants as op_named;
+ghost use Rattle.op_forms.specs.declared.op.Op.TheVariants as op_named;
 ghost use Rattle.py_ast.specs.declared.expr.Expr.TheVariants as expr;
 ghost use Rattle.node_tree.specs.Blocks as tree;
 ghost use Rattle.py_meaning.specs.Resolved as meaning;
@@ -14,7 +14,7 @@ use crate::bound::Bound;
 use crate::ending::ReformEnd;
 use node_tree::Temps;
 use nu_text::RcStr;
-use op_rules::{Const, Op};
+use op_forms::{Const, Op};
 use py_ast::{Argument, Binary, Comparison, Expr, Unary};
 use reform_base::Part;
 use reform_expr::{Home, call, constant, name, operate};

@@ -1,10 +1,10 @@
 -- Operations on operands that are carried in ranges of their own.
 use Rattle.std.proofs.Common.{◌≡◌, ⊎_elim, inl, inr, ℕ, suc, ◌+◌, ◌<◌, ◌≤◌, length, map, Bool, true, false, List, [], ◌∷◌, ◌++◌, Option, Some, refl, sym, ap, ◌∙◌, subst, arith}
 use Rattle.nu_value.specs.declared.value.Value.{Value}
-use Rattle.op_rules.specs.declared.constant.Const.TheVariants as const
-use Rattle.op_rules.specs.declared.op.Op.{Op}
-use Rattle.op_rules.specs.declared.op.Op.TheVariants as op
-use Rattle.op_rules.specs.declared.signature.ArgumentKind.{ArgumentKind}
+use Rattle.op_forms.specs.declared.constant.Const.TheVariants as const
+use Rattle.op_forms.specs.declared.op.Op.{Op}
+use Rattle.op_forms.specs.declared.op.Op.TheVariants as op
+use Rattle.op_forms.specs.declared.signature.ArgumentKind.{ArgumentKind}
 use Rattle.node_tree.specs.declared.node.Argument.{Argument}
 use Rattle.node_tree.specs.declared.node.Argument.TheVariants as argument
 use Rattle.node_tree.specs.declared.node.Operand.{Operand}

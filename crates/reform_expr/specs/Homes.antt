@@ -2,7 +2,7 @@
 use Rattle.std.specs.Prelude.{ℕ}
 use Rattle.node_tree.specs.declared.node.Argument.TheVariants as argument
 use Rattle.node_tree.specs.Blocks as tree
-use Rattle.op_rules.specs.declared.op.Op.TheVariants as op
+use Rattle.op_forms.specs.declared.op.Op.TheVariants as op
 use Rattle.py_meaning.specs.Syntax as syntax
 use Rattle.reform_expr.specs.declared.home.Home.{Home}
 use Rattle.reform_expr.specs.declared.home.Home.TheVariants as home

@@ -1,7 +1,7 @@
 //! Expressions without operands.
 
 ghost use Rattle.std.specs.Prelude.{◌≡◌, ℕ, ◌+◌, ◌≤◌, [], OnOk, IfOk};
-ghost use Rattle.op_rules.specs.Foldable.{value_of};
+ghost use Rattle.op_forms.specs.Constants.{value_of};
 ghost use Rattle.node_tree.specs.Blocks as tree;
 ghost use Rattle.node_tree.specs.Contents.{total};
 ghost use Rattle.node_tree.specs.declared.node.Operand.TheVariants as operand;
@@ -13,7 +13,7 @@ ghost use Rattle.reform_expr.specs.Homes.{home_of, reads};
 
 use crate::home::Home;
 use node_tree::{Argument, Node, Operand, Temps};
-use op_rules::{Const, Op};
+use op_forms::{Const, Op};
 use reform_base::{Part, one};
 use sqlite_items::Items;
 use std::alloc::{AllocError, Global};

@@ -1,8 +1,8 @@
 //! Operations on any number of operands, and calls.
 
 ghost use Rattle.std.specs.Prelude.{◌≡◌, ℕ, ◌+◌, List, [], ◌∷◌, ◌++◌, map, OnOk, IfOk, slice_get};
-ghost use Rattle.op_rules.specs.declared.op.Op.TheVariants as op_named;
-ghost use Rattle.op_rules.specs.Signature as signature;
+ghost use Rattle.op_forms.specs.declared.op.Op.TheVariants as op_named;
+ghost use Rattle.op_forms.specs.Signature as signature;
 ghost use Rattle.node_tree.specs.Blocks as tree;
 ghost use Rattle.node_tree.specs.Contents.{total};
 ghost use Rattle.node_tree.specs.declared.node.Operand.TheVariants as operand;
@@ -14,7 +14,7 @@ ghost use Rattle.reform_expr.specs.Arguments.{is_name, argument_of, arguments};
 ghost use Rattle.reform_expr.specs.Parts.{Range, CarriesEach, blocks, totals};
 
 use node_tree::{Argument, Block, Node, Operand, Temps};
-use op_rules::{ArgumentKind, Const, Op};
+use op_forms::{ArgumentKind, Const, Op};
 use reform_base::{Part, ended, joined};
 use sqlite_items::Items;
 use std::alloc::{AllocError, Global};

@@ -1,8 +1,8 @@
 //! Loops.
 
 ghost use Rattle.std.specs.Prelude.{◌≡◌, ℕ, ◌+◌, ◌≤◌, List, Bool, Option, OnOk, IfOk};
-ghost use Rattle.op_rules.specs.declared.constant.Const.{Const as Constant};
-ghost use Rattle.op_rules.specs.declared.op.Op.{Op as Operation};
+ghost use Rattle.op_forms.specs.declared.constant.Const.{Const as Constant};
+ghost use Rattle.op_forms.specs.declared.op.Op.{Op as Operation};
 ghost use Rattle.node_tree.specs.declared.node.Argument.{Argument as Taken};
 ghost use Rattle.node_tree.specs.Contents.{operations, constants, operand_constants, yields};
 ghost use Rattle.node_tree.specs.Tree.{block};
@@ -14,7 +14,7 @@ ghost use Rattle.reform_loops.specs.Kept.{asks, flags};
 
 use crate::branches::branched;
 use node_tree::{Block, Node, Operand, Temps};
-use op_rules::Const;
+use op_forms::Const;
 use reform_base::{Part, ended, one};
 use sqlite_items::Items;
 use std::alloc::{AllocError, Global};

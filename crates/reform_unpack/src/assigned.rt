@@ -10,7 +10,7 @@ ghost use Rattle.reform_unpack.specs.Places.{target_of, stores};
 
 use crate::place::Place;
 use node_tree::{Argument, Block, Node, Operand, Temps};
-use op_rules::Op;
+use op_forms::Op;
 use reform_base::one;
 use reform_expr::Home;
 use sqlite_items::Items;

@@ -14,7 +14,7 @@ ghost use Rattle.reform_unpack.specs.Places.{value_of, target_of, reads, stores}
 use crate::assigned::assign;
 use crate::place::Place;
 use node_tree::{Argument, Block, Node, Operand, Temps};
-use op_rules::Op;
+use op_forms::Op;
 use reform_base::{Part, ended, joined};
 use reform_expr::name;
 use sqlite_items::Items;

@@ -1,7 +1,7 @@
 -- Laws of the rows on integers, in the words of arithmetic.
 use Rattle.std.specs.Prelude.{◌≡◌, ℤ, pos, ◌+ℤ◌, ◌*ℤ◌, ◌≤ℤ◌, ◌<ℤ◌, ◌↔◌, IsTrue}
 use Rattle.std.specs.Ordering.{int_cmp}
-use Rattle.op_rules.specs.declared.op.Op.TheVariants as op
+use Rattle.op_forms.specs.declared.op.Op.TheVariants as op
 use Rattle.op_rules.specs.Comparisons.{holds}
 use Rattle.op_rules.specs.Numbers.{floor_quotient, floor_rest}
 

@@ -9,7 +9,7 @@ use crate::rows::{
 };
 use nu_run::StopKind;
 use nu_value::{Codes, Heap, Value};
-use op_rules::{Op, OpEnd};
+use op_forms::{Op, OpEnd};
 use std::alloc::{AllocError, Global};
 
 fn pair(alloc: Global, op: Op, heap: &Heap, args: &[Value]) -> Result<OpEnd, AllocError>

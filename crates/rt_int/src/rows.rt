@@ -8,9 +8,8 @@ ghost use Rattle.op_rules.specs.Numbers as numbers;
 
 use nu_run::StopKind;
 use nu_value::{Heap, Object, Sameness, Value, range_len, same_value};
-use op_rules::{
-    Computed, Op, OpEnd, compute, compute_one, no_operand, no_operands, no_order, raised,
-};
+use op_forms::{Op, OpEnd};
+use op_rules::{Computed, compute, compute_one, no_operand, no_operands, no_order, raised};
 use std::alloc::{AllocError, Global};
 
 fn give_bool(truth: bool) -> OpEnd

@@ -3,7 +3,7 @@ use Rattle.std.proofs.Common.{◌≡◌, ℕ, zero, suc, ◌-◌, ◌<◌, true,
 use Rattle.std.specs.Prelude.{◌==◌}
 use Rattle.std.proofs.lemmas.Bool.Decides.{nat_tests}
 use Rattle.nu_value.specs.declared.value.Value.TheVariants as value
-use Rattle.op_rules.specs.declared.end.OpEnd.TheVariants as opend
+use Rattle.op_forms.specs.declared.end.OpEnd.TheVariants as opend
 use Rattle.op_rules.specs.TextRows.{copies, repeated}
 
 pub copies_next : (n : ℕ) (text : List ℕ) → 0 < n → copies n text ≡ text ++ copies (n - 1) text

@@ -3,13 +3,14 @@
 ghost use Rattle.std.specs.Prelude.{◌≡◌, IfOk};
 ghost use Rattle.op_rules.specs.IntRows.{of_one, of_two};
 ghost use Rattle.op_rules.specs.Kinds as kinds;
-ghost use Rattle.op_rules.specs.Signs as signs;
+ghost use Rattle.op_forms.specs.Signs as signs;
 ghost use Rattle.op_rules.specs.TextRows as spec;
 
 use crate::rows::{text_operation, text_order};
 use nu_run::StopKind;
 use nu_value::{Codes, Heap, Value};
-use op_rules::{Op, OpEnd, no_operand};
+use op_forms::{Op, OpEnd};
+use op_rules::no_operand;
 use std::alloc::{AllocError, Global};
 
 fn pair(alloc: Global, op: Op, heap: &Heap, args: &[Value]) -> Result<OpEnd, AllocError>

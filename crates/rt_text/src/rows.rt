@@ -2,17 +2,18 @@
 
 ghost use Rattle.std.specs.Prelude.{◌≡◌, ◌+◌, ◌++◌, IfOk, string_bytes};
 ghost use Rattle.nu_value.specs.declared.value.Value.TheVariants as value;
-ghost use Rattle.op_rules.specs.declared.end.OpEnd.TheVariants as opend;
+ghost use Rattle.op_forms.specs.declared.end.OpEnd.TheVariants as opend;
 ghost use Rattle.op_rules.specs.Comparisons as comparisons;
 ghost use Rattle.op_rules.specs.Kinds as kinds;
-ghost use Rattle.op_rules.specs.Signs as signs;
+ghost use Rattle.op_forms.specs.Signs as signs;
 ghost use Rattle.nu_text.specs.Characters as lengths;
 ghost use Rattle.op_rules.specs.TextRows as spec;
 
 use nu_run::StopKind;
 use nu_text::{RcStr, characters};
 use nu_value::{Heap, Value};
-use op_rules::{Op, OpEnd, no_operands, no_order};
+use op_forms::{Op, OpEnd};
+use op_rules::{no_operands, no_order};
 use std::alloc::{AllocError, Global};
 use std::cmp::Ordering;
 

@@ -2,7 +2,7 @@
 use Rattle.std.proofs.Common.{◌≡◌, ℕ, zero, suc, ◌+◌, List, [], ◌∷◌, Option, Some, None, Bool, true, false, refl, sym, drop, add-one}
 use Rattle.std.specs.Prelude.{slice_get, ◌&&◌}
 use Rattle.nu_value.specs.Pairs.{PairList}
-use Rattle.op_rules.specs.Fits.{are_texts}
+use Rattle.op_forms.specs.Fits.{are_texts}
 use Rattle.runtime_table.specs.Keywords.{text_at}
 
 step : (ps : PairList) (i : ℕ) → text_at (slice_get ps i) ≡ true → are_texts (drop (suc i) ps) ≡ are_texts (drop i ps)

@@ -3,12 +3,12 @@
 ghost use Rattle.std.specs.Prelude.{◌≡◌, length, slice_get, option_copied};
 ghost use Rattle.nu_value.specs.Same.{number_of, object_of};
 ghost use Rattle.nu_value.specs.View.{is_text};
-ghost use Rattle.op_rules.specs.Fits as spec;
+ghost use Rattle.op_forms.specs.Fits as spec;
 ghost use Rattle.runtime_table.specs.Keywords.{text_at};
 ghost use Rattle.std.specs.List.{list_all};
 
 use nu_value::{Heap, Object, Pairs, Value};
-use op_rules::{ArgumentKind, Op, World};
+use op_forms::{ArgumentKind, Op, World};
 
 /// The object that a value is.
 pub fn object_of<'a>(heap: &'a Heap, value: &Value) -> Option<&'a Object>

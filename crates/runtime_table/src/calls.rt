@@ -2,13 +2,14 @@
 
 ghost use Rattle.std.specs.Prelude.{◌≡◌, ◌++◌, IfOk, OnOk, codes, string_bytes, slice_get, option_copied};
 ghost use Rattle.std.specs.Fmt.{signed_decimal};
-ghost use Rattle.op_rules.specs.declared.end.OpEnd.TheVariants as opend;
+ghost use Rattle.op_forms.specs.declared.end.OpEnd.TheVariants as opend;
 ghost use Rattle.op_rules.specs.CallRows as spec;
 
 use nu_run::StopKind;
 use nu_text::RcStr;
 use nu_value::{Heap, Object, Value};
-use op_rules::{OpEnd, kind_name, raised};
+use op_forms::OpEnd;
+use op_rules::{kind_name, raised};
 use std::alloc::{AllocError, Global};
 use std::fmt::Write;
 

@@ -4,16 +4,17 @@ ghost use Rattle.std.specs.Prelude.{◌≡◌, IfOk, OnOk, pos, not};
 ghost use Rattle.std.specs.Ordering.{int_eq};
 ghost use Rattle.nu_value.specs.declared.value.Value.TheVariants as value_of;
 ghost use Rattle.nu_value.specs.Same.{number_of, object_of};
-ghost use Rattle.op_rules.specs.declared.end.OpEnd.TheVariants as opend;
+ghost use Rattle.op_forms.specs.declared.end.OpEnd.TheVariants as opend;
 ghost use Rattle.op_rules.specs.Comparisons.{give_bool};
 ghost use Rattle.op_rules.specs.Finish as spec;
-ghost use Rattle.op_rules.specs.Laws as laws;
-ghost use Rattle.op_rules.specs.Sound.{AfterIn, EndIn, IsIn, Sound};
+ghost use Rattle.op_forms.specs.Answers as answers;
+ghost use Rattle.op_forms.specs.Sound.{AfterIn, EndIn, IsIn, Sound};
 
 use crate::arguments::object_of;
 use nu_run::StopKind;
 use nu_value::{Heap, Items, Object, Value};
-use op_rules::{After, OpEnd, World, finishing_keeps_sound, raised};
+use op_forms::{After, OpEnd, World};
+use op_rules::{finishing_keeps_sound, raised};
 use std::alloc::{AllocError, Global};
 
 const TYPE_ERROR: u64 = 35;
@@ -97,7 +98,7 @@ fn finished(
     value: Value,
 ) -> Result<OpEnd, AllocError>
     ensures end { IfOk result (λ e. e ≡ (spec.finished after world.old value).end) }
-    ensures world { OnOk result (world.new ≡ laws.after world.old (spec.finished after world.old value)) }
+    ensures world { OnOk result (world.new ≡ answers.after world.old (spec.finished after world.old value)) }
 {
     match after {
         After::Plain => Ok(OpEnd::Give(value)),
@@ -119,7 +120,7 @@ pub fn finish(
     value: Value,
 ) -> Result<OpEnd, AllocError>
     ensures end { IfOk result (λ e. e ≡ (spec.finished after world.old value).end) }
-    ensures world { OnOk result (world.new ≡ laws.after world.old (spec.finished after world.old value)) }
+    ensures world { OnOk result (world.new ≡ answers.after world.old (spec.finished after world.old value)) }
     ensures sound { Sound world.old → AfterIn world.old.heap after → IsIn world.old.heap value → OnOk result (Sound world.new) }
     ensures names { Sound world.old → AfterIn world.old.heap after → IsIn world.old.heap value → IfOk result (λ e. EndIn world.new.heap e) }
 {

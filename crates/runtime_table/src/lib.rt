@@ -9,5 +9,5 @@ mod table;
 
 pub use arguments::fits;
 pub use finishing::finish;
-pub use op_rules::World;
+pub use op_forms::World;
 pub use table::apply;

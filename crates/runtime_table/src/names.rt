@@ -4,13 +4,15 @@ ghost use Rattle.std.specs.Prelude.{◌≡◌, ◌<◌, ◌++◌, IfOk, OnOk, If
 ghost use Rattle.nu_value.specs.Names.{value_at};
 ghost use Rattle.nu_value.specs.declared.object.Object.TheVariants as object;
 ghost use Rattle.op_rules.specs.Kinds as kinds;
-ghost use Rattle.op_rules.specs.Laws.{after};
+ghost use Rattle.op_forms.specs.Answers.{after};
+ghost use Rattle.op_forms.specs.Answers as answers;
 ghost use Rattle.op_rules.specs.NameRows as spec;
 
 use nu_run::StopKind;
 use nu_text::RcStr;
 use nu_value::{Heap, Object, Value};
-use op_rules::{OpEnd, World, raised};
+use op_forms::{OpEnd, World};
+use op_rules::raised;
 use std::alloc::{AllocError, Global};
 
 pub const NAME_ERROR: u64 = 30;
@@ -64,7 +66,7 @@ fn no_free(alloc: Global, name: &str) -> Result<OpEnd, AllocError>
 }
 
 fn in_space<'a>(heap: &'a Heap, space: u64, name: &str) -> Option<&'a Value>
-    ensures { option_copied result ≡ value_at (spec.names_of (slice_get heap.now space)) name.now }
+    ensures { option_copied result ≡ value_at (answers.names_of (slice_get heap.now space)) name.now }
 {
     match heap.get(space) {
         Some(Object::Space(names)) => names.get(name),

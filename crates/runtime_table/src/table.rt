@@ -2,12 +2,13 @@
 
 ghost use Rattle.std.specs.Prelude.{◌≡◌, IfOk, OnOk, true, [], ◌∷◌};
 ghost use Rattle.nu_run.specs.declared.StopKind.TheVariants as stop;
-ghost use Rattle.op_rules.specs.declared.end.OpEnd.TheVariants as opend;
-ghost use Rattle.op_rules.specs.Fits.{fits};
-ghost use Rattle.op_rules.specs.Laws.{after};
+ghost use Rattle.op_forms.specs.declared.end.OpEnd.TheVariants as opend;
+ghost use Rattle.op_forms.specs.Fits.{fits};
+ghost use Rattle.op_forms.specs.Answers.{after};
+ghost use Rattle.op_forms.specs.Answers as answers;
 ghost use Rattle.op_rules.specs.NameRows as names;
-ghost use Rattle.op_rules.specs.declared.op.Op.TheVariants as op;
-ghost use Rattle.op_rules.specs.Sound.{Sound, EndIn};
+ghost use Rattle.op_forms.specs.declared.op.Op.TheVariants as op;
+ghost use Rattle.op_forms.specs.Sound.{Sound, EndIn};
 ghost use Rattle.op_rules.specs.Table as spec;
 
 use crate::calls::call_row;
@@ -17,7 +18,8 @@ use crate::names::{
 };
 use nu_run::StopKind;
 use nu_value::{Heap, Object, Value};
-use op_rules::{Family, Op, OpEnd, World, rows_keep_sound};
+use op_forms::{Op, OpEnd, World};
+use op_rules::{Family, rows_keep_sound};
 use rt_int::apply_int;
 use rt_text::apply_text;
 use std::alloc::{AllocError, Global};
@@ -131,7 +133,7 @@ fn local(alloc: Global, _world: &World, value: &Value, name: &Value) -> Result<O
 }
 
 fn cellget(alloc: Global, heap: &Heap, cell: &Value, name: &Value) -> Result<OpEnd, AllocError>
-    ensures { IfOk result (λ e. e ≡ (names.named heap.now (λ name. names.keeps heap.now (names.cellget_row heap.now cell.now name)) name.now).end) }
+    ensures { IfOk result (λ e. e ≡ (names.named heap.now (λ name. answers.keeps heap.now (names.cellget_row heap.now cell.now name)) name.now).end) }
 {
     match name {
         Value::Str(name) => cellget_row(alloc, heap, cell, name.as_str()),
@@ -150,7 +152,7 @@ fn celldel(alloc: Global, heap: &mut Heap, cell: &Value, name: &Value) -> Result
 }
 
 fn freeget(alloc: Global, heap: &Heap, cell: &Value, name: &Value) -> Result<OpEnd, AllocError>
-    ensures { IfOk result (λ e. e ≡ (names.named heap.now (λ name. names.keeps heap.now (names.freeget_row heap.now cell.now name)) name.now).end) }
+    ensures { IfOk result (λ e. e ≡ (names.named heap.now (λ name. answers.keeps heap.now (names.freeget_row heap.now cell.now name)) name.now).end) }
 {
     match name {
         Value::Str(name) => freeget_row(alloc, heap, cell, name.as_str()),

@@ -1,5 +1,5 @@
 use Rattle.std.proofs.Common.{rules, ◌≡◌, ◌∙◌, ◌∷◌, [], sym, ap, Some}
-use Rattle.op_rules.specs.declared.op.Op.TheVariants as op
+use Rattle.op_forms.specs.declared.op.Op.TheVariants as op
 use Rattle.c_meaning.specs.declared.program.Argument.TheVariants as argument
 use Rattle.c_machine.specs.Places.{asked}
 use Rattle.c_machine.proofs.Places.{set_either, two_arguments}

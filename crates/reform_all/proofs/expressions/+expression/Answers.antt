@@ -1,5 +1,5 @@
 use Rattle.std.proofs.Common.{rules, ◌≡◌, ◌∙◌, ap, sym, subst, true, false, length, arith, [], ◌∷◌}
-use Rattle.op_rules.specs.declared.constant.Const.TheVariants as const
+use Rattle.op_forms.specs.declared.constant.Const.TheVariants as const
 use Rattle.nu_value.specs.declared.value.Value.TheVariants as value
 use Rattle.node_tree.specs.Blocks as tree
 use Rattle.py_meaning.specs.Resolved as meaning

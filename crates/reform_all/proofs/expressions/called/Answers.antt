@@ -1,5 +1,5 @@
 use Rattle.std.proofs.Common.{[], ◌∷◌, ◌++◌, ap, ◌∙◌, subst, map}
-use Rattle.op_rules.specs.declared.op.Op.TheVariants as op
+use Rattle.op_forms.specs.declared.op.Op.TheVariants as op
 use Rattle.node_tree.specs.Blocks as tree
 use Rattle.reform_all.specs.Expressions.{Does}
 use Rattle.reform_all.proofs.ExpressionsCarried.{call_does}

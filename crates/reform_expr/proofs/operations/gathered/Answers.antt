@@ -1,5 +1,5 @@
 use Rattle.std.proofs.Common.{sym}
-use Rattle.op_rules.specs.Signature as signature
+use Rattle.op_forms.specs.Signature as signature
 use Rattle.reform_expr.proofs.Blocks.{blocks_push, given_push, given_length}
 use Rattle.reform_expr.proofs.operations.gathered.Goals as goal
 

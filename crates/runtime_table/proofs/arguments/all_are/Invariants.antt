@@ -1,6 +1,6 @@
 use Rattle.std.proofs.Common.{◌≡◌, drop}
 use Rattle.std.specs.List.{list_all}
-use Rattle.op_rules.specs.Fits.{is_of}
+use Rattle.op_forms.specs.Fits.{is_of}
 use Rattle.runtime_table.proofs.arguments.all_are.Given as goal
 
 abbrev pub invariant-loop-value : goal.invariant-loop-value

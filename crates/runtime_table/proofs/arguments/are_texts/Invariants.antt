@@ -1,5 +1,5 @@
 use Rattle.std.proofs.Common.{◌≡◌, drop}
-use Rattle.op_rules.specs.Fits.{are_texts}
+use Rattle.op_forms.specs.Fits.{are_texts}
 use Rattle.runtime_table.proofs.arguments.are_texts.Given as goal
 
 abbrev pub invariant-loop-place : goal.invariant-loop-place

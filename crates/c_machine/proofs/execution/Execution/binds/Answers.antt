@@ -1,5 +1,5 @@
 use Rattle.std.proofs.Common.{rules, ◌≡◌, sym, subst}
-use Rattle.op_rules.specs.declared.op.Op.TheVariants as op
+use Rattle.op_forms.specs.declared.op.Op.TheVariants as op
 use Rattle.c_machine.specs.Places.{Keeps, Right, asked, module_names}
 use Rattle.c_machine.proofs.execution.Execution.binds.Goals as goal
 

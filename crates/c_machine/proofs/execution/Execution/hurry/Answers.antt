@@ -1,7 +1,7 @@
 use Rattle.std.proofs.Common.{rules, ◌≡◌, ◌∙◌, ◌<◌, ◌%◌, ap, sym, subst, refl, arith, length, Some, true, slice_get}
 use Rattle.std.proofs.Math.ListN.{length-set}
 use Rattle.std.proofs.lemmas.List.Elements.{All-get_or}
-use Rattle.nu_calls.specs.Rules.{table_rules}
+use Rattle.op_rules.specs.TableRules.{table_rules}
 use Rattle.c_meaning.specs.State.{printed_in}
 use Rattle.c_meaning.specs.Step.{placed_in, placed_step, step}
 use Rattle.c_machine.specs.Effects.{placed_for}

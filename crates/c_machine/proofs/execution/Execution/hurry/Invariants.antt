@@ -1,7 +1,7 @@
 use Rattle.std.proofs.Common.{◌≡◌, ◌≤◌, ◌-◌, ℕ, List, Some, length}
 use Rattle.std.specs.Prelude.{All, slice_get}
 use Rattle.nu_run.specs.Steps.{More}
-use Rattle.nu_calls.specs.Rules.{table_rules}
+use Rattle.op_rules.specs.TableRules.{table_rules}
 use Rattle.c_meaning.specs.declared.code.Placed.{Placed}
 use Rattle.c_meaning.specs.State.{printed_in}
 use Rattle.c_meaning.specs.Step.{placed_in, step}

@@ -1,5 +1,5 @@
 use Rattle.std.proofs.Common.{sym, ◌∙◌}
-use Rattle.nu_calls.specs.Rules.{table_rules}
+use Rattle.op_rules.specs.TableRules.{table_rules}
 use Rattle.c_meaning.specs.Step as meaning
 use Rattle.c_machine.specs.Effects.{site}
 use Rattle.c_machine.specs.Standing.{state_of}

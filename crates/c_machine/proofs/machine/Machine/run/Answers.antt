@@ -1,6 +1,6 @@
 use Rattle.std.proofs.Common.{◌≡◌, ◌+◌, [], ◌++◌, refl, sym, ◌∙◌, ap, subst, arith, rules, None, Err, true}
 use Rattle.nu_run.specs.Steps.{More}
-use Rattle.nu_calls.specs.Rules.{table_rules}
+use Rattle.op_rules.specs.TableRules.{table_rules}
 use Rattle.c_meaning.specs.State.{printed_in}
 use Rattle.c_meaning.specs.Step.{step}
 use Rattle.c_machine.specs.Machines.{answer_at_rest}

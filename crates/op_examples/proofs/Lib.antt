@@ -1,0 +1,6 @@
+mod Calls
+mod Lowered
+mod Nodes
+mod Resolved
+mod Statements
+mod Texts

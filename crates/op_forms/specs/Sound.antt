@@ -1,0 +1,140 @@
+-- Sound worlds: every number of an object is that of an object of the kind that is asked for.
+use Rattle.std.specs.Prelude.{◌≡◌, ◌≢◌, ℕ, ◌<◌, pos, List, [], ◌∷◌, length, Option, Some, None, Bool, true, false, ◌⊎◌, slice_get}
+use Rattle.nu_value.specs.declared.value.Value.{Value}
+use Rattle.nu_value.specs.declared.value.Value.TheVariants as value
+use Rattle.nu_value.specs.declared.object.Object.{Object}
+use Rattle.nu_value.specs.declared.object.Object.TheVariants as object
+use Rattle.nu_value.specs.Names.{NameList, place_of}
+use Rattle.nu_value.specs.Natives.{native_classes}
+use Rattle.nu_value.specs.Pairs.{PairList, key_place}
+use Rattle.op_forms.specs.declared.end.After.{After}
+use Rattle.op_forms.specs.declared.end.After.TheVariants as after
+use Rattle.op_forms.specs.declared.end.How.{How}
+use Rattle.op_forms.specs.declared.end.How.TheVariants as how
+use Rattle.op_forms.specs.declared.end.OpEnd.{OpEnd}
+use Rattle.op_forms.specs.declared.end.OpEnd.TheVariants as opend
+use Rattle.op_forms.specs.declared.world.World.{World}
+
+-- the kinds of objects that others ask for
+pub data Sort : Type 0 where
+  ADict : Sort
+  AFunction : Sort
+  AClass : Sort
+  AGenerator : Sort
+  ACell : Sort
+  ASpace : Sort
+  AnException : Sort
+  Another : Sort
+
+abbrev pub sort_of : Option Object → Sort
+sort_of (Some (object.Dict pairs)) = ADict
+sort_of (Some (object.Function code defaults keywords cells)) = AFunction
+sort_of (Some (object.Class name base own native)) = AClass
+sort_of (Some (object.Generator code state given cells)) = AGenerator
+sort_of (Some (object.Cell v)) = ACell
+sort_of (Some (object.Space names)) = ASpace
+sort_of (Some (object.Exception class args entries fields cause)) = AnException
+sort_of other = Another
+
+-- the object of this number is there, and of this kind
+pub record IsA (h : List Object) (n : ℕ) (s : Sort) : Type 0 where
+  pub there : n < length h
+  pub sort : sort_of (slice_get h n) ≡ s
+
+-- a value other than Unset; the object that it names is there
+abbrev pub IsIn : List Object → Value → Type 0
+IsIn h value.Unset = ⊥
+IsIn h (value.Obj n) = n < length h
+IsIn h other = Unit {0}
+
+-- Unset, or such a value
+abbrev pub MayBeIn : List Object → Value → Type 0
+MayBeIn h (value.Obj n) = n < length h
+MayBeIn h other = Unit {0}
+
+abbrev pub AllIn : List Object → List Value → Type 0
+AllIn h [] = Unit {0}
+AllIn h (v ∷ vs) = IsIn h v × AllIn h vs
+
+-- a cell
+abbrev pub IsCell : List Object → Value → Type 0
+IsCell h (value.Obj n) = IsA h n ACell
+IsCell h other = ⊥
+
+abbrev pub AreCells : List Object → List Value → Type 0
+AreCells h [] = Unit {0}
+AreCells h (v ∷ vs) = IsCell h v × AreCells h vs
+
+-- distinct names, with values
+abbrev pub NamesIn : List Object → NameList → Type 0
+NamesIn h [] = Unit {0}
+NamesIn h (p ∷ ps) = IsIn h p.1 × (place_of ps p.0 ≡ length ps) × NamesIn h ps
+
+-- distinct keys, with values
+abbrev pub PairsIn : List Object → PairList → Type 0
+PairsIn h [] = Unit {0}
+PairsIn h (p ∷ ps) = IsIn h p.1 × IsIn h p.2 × (key_place ps p.0 ≡ length ps) × PairsIn h ps
+
+-- the class that another stands under came before, unless no script made it
+abbrev pub BaseIn : List Object → ℕ → Bool → Option ℕ → Type 0
+BaseIn h number native None = Unit {0}
+BaseIn h number true (Some base) = IsA h base AClass
+BaseIn h number false (Some base) = IsA h base AClass × (base < number)
+
+-- the exception that another was raised from
+abbrev pub CauseIn : List Object → Option ℕ → Type 0
+CauseIn h None = Unit {0}
+CauseIn h (Some cause) = IsA h cause AnException
+
+-- what an object names, in a heap with so many functions in the program
+abbrev pub ObjectIn : ℕ → List Object → ℕ → Object → Type 0
+ObjectIn codes h number (object.Tuple items) = AllIn h items
+ObjectIn codes h number (object.List items) = AllIn h items
+ObjectIn codes h number (object.Dict pairs) = PairsIn h pairs
+ObjectIn codes h number (object.Range start stop step) = step ≢ pos 0
+ObjectIn codes h number (object.Function code defaults keywords cells) = (code < codes) × AllIn h defaults × NamesIn h keywords × AreCells h cells
+ObjectIn codes h number (object.Method receiver function) = IsIn h receiver × IsA h function AFunction
+ObjectIn codes h number (object.Class name base own native) = BaseIn h number native base × NamesIn h own
+ObjectIn codes h number (object.Instance class fields) = IsA h class AClass × NamesIn h fields
+ObjectIn codes h number (object.Generator code state given cells) = (code < codes) × AllIn h given × AreCells h cells
+ObjectIn codes h number (object.Iterator over place size over_now) = IsIn h over
+ObjectIn codes h number (object.View dict kind) = IsA h dict ADict
+ObjectIn codes h number (object.Cell v) = MayBeIn h v
+ObjectIn codes h number (object.Space names) = NamesIn h names
+ObjectIn codes h number (object.Exception class args entries fields cause) = IsA h class AClass × AllIn h args × NamesIn h fields × CauseIn h cause
+ObjectIn codes h number (object.Builtin name receiver) = MayBeIn h receiver
+ObjectIn codes h number (object.Trace exception) = IsA h exception AnException
+
+-- a heap in a program with so many functions
+pub record SoundHeap (codes : ℕ) (h : List Object) : Type 0 where
+  pub objects : (number : ℕ) (o : Object) → slice_get h number ≡ Some o → ObjectIn codes h number o
+  -- it begins with the classes that no script makes
+  pub natives : (number : ℕ) → number < length native_classes → slice_get h number ≡ slice_get native_classes number
+
+-- A sound world. Behind those classes stand the built-in names.
+pub record Sound (w : World) : Type 0 where
+  pub heap : SoundHeap (length w.codes) w.heap
+  pub first : w.builtins ≡ length native_classes
+  pub builtins : IsA w.heap w.builtins ASpace
+  pub names : IsA w.heap w.«module» ASpace
+
+-- what stands behind an asked function names only objects that are there
+abbrev pub AfterIn : List Object → After → Type 0
+AfterIn h (after.Made made) = IsIn h made
+AfterIn h (after.Report exception) = IsA h exception AnException
+AfterIn h other = Unit {0}
+
+abbrev pub HowIn : List Object → How → Type 0
+HowIn h (how.Send v) = IsIn h v
+HowIn h (how.Throw exception) = IsA h exception AnException
+HowIn h how.Close = Unit {0}
+
+-- an end of an operation names only objects that are there, each of the kind that is asked for
+abbrev pub EndIn : List Object → OpEnd → Type 0
+EndIn h (opend.Give v) = IsIn h v
+EndIn h (opend.Raise n args) = (IsA h n AClass ⊎ IsA h n AnException) × AllIn h args
+EndIn h (opend.Ask function items names after) = IsA h function AFunction × AllIn h items × NamesIn h names × AfterIn h after
+EndIn h (opend.Resume generator h') = IsA h generator AGenerator × HowIn h h'
+EndIn h (opend.Put text) = Unit {0}
+EndIn h opend.Line = Unit {0}
+EndIn h (opend.Stop kind) = Unit {0}

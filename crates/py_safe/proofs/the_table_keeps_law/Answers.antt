@@ -1,5 +1,0 @@
-use Rattle.py_safe.proofs.Table.{table_law}
-use Rattle.py_safe.proofs.the_table_keeps_law.Goals as goal
-
-pub returns : goal.returns
-returns c = table_law c.rows_keep_sound.ensures c.finishing_keeps_sound.ensures c.the_start_is_sound.ensures
