@@ -13,4 +13,4 @@ pub record WellFormed (f : FlatFunction) : Type 0 where
 
 -- behind its labels there are numbers for one label at its beginning and one for each pause
 abbrev pub HasRoom : FlatFunction → Type 0
-HasRoom f = f.labels + 1 + yields f.body + 1 < 2 ^ 64
+HasRoom f = f.labels + yields f.body + 1 < 2 ^ 64

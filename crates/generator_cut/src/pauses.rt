@@ -118,7 +118,7 @@ pub(crate) fn numbers(alloc: Global, count: u64, first: u64) -> Result<Vec<u64>,
 
 // How many pauses stand in a body.
 fn pauses_in(body: &[flow_code::Line]) -> u64
-    requires room { yields body.now + 1 < 2 ^ 64 }
+    requires { yields body.now + 1 < 2 ^ 64 }
     ensures { result ≡ yields body.now }
 {
     let mut pauses = 0;
@@ -138,7 +138,7 @@ pub(crate) fn put_beginning(
     saved: &[u64],
     body: &[flow_code::Line],
 ) -> Result<(), AllocError>
-    requires room { labels + 1 + yields body.now + 1 < 2 ^ 64 }
+    requires { labels + yields body.now + 1 < 2 ^ 64 }
     ensures { OnOk result ((tail : List CLine) → out.new.items ++ tail ≡ out.old.items ++ c_line.Do (statement.Switch (labels ∷ counted (yields body.now) (labels + 1))) ∷ c_line.Label labels ∷ clears saved.now tail) }
 {
     let cases = numbers(alloc, pauses_in(body) + 1, labels)?;

@@ -22,7 +22,8 @@ fn put_statement(
     saved: &[u64],
     statement: &flow_code::Statement,
 ) -> Result<(), AllocError>
-    requires room { base + pauses + 1 < 2 ^ 64 }
+    requires room { base + pauses < 2 ^ 64 }
+    requires few { pauses + 1 < 2 ^ 64 }
     ensures lines { OnOk result ((tail : List CLine) → out.new.items ++ tail ≡ out.old.items ++ becomes base saved.now pauses statement.now tail) }
     ensures fits { OnOk result (StatementFits statement.now) }
 {
@@ -138,7 +139,8 @@ fn put_line(
     saved: &[u64],
     line: &flow_code::Line,
 ) -> Result<u64, AllocError>
-    requires room { base + pauses + 1 < 2 ^ 64 }
+    requires room { base + pauses < 2 ^ 64 }
+    requires few { pauses + 1 < 2 ^ 64 }
     ensures lines { IfOk result (λ more. (left : List FlatLine) → out.new.items ++ cut_lines base (λ x left. saved.now) more left ≡ out.old.items ++ cut_lines base (λ x left. saved.now) pauses (line.now ∷ left)) }
     ensures fits { IfOk result (λ more. LineFits line.now) }
     ensures pauses { IfOk result (λ more. more ≡ behind_line pauses line.now) }
@@ -163,7 +165,8 @@ pub(crate) fn put_lines(
     saved: &[u64],
     body: &[flow_code::Line],
 ) -> Result<(), AllocError>
-    requires room { base + yields body.now + 1 < 2 ^ 64 }
+    requires room { base + yields body.now < 2 ^ 64 }
+    requires few { yields body.now + 1 < 2 ^ 64 }
     ensures lines { OnOk result (out.new.items ≡ out.old.items ++ cut_lines base (λ x left. saved.now) 0 body.now) }
     ensures fits { OnOk result (AllByRecursion LineFits body.now) }
 {
