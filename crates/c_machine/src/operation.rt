@@ -67,13 +67,10 @@ fn exception_made(
     ensures heap { OnOk result (heap.new ≡ (exceptions.exception_made class args heap.old).heap) }
 {
     match heap.get(class) {
-        Some(Object::Class { .. }) => heap.make(Object::Exception {
-            class,
-            args,
-            entries: Entries::new(alloc),
-            fields: Names::new(alloc),
-            cause: None,
-        }),
+        Some(Object::Class { .. }) => {
+            let exception = Object::exception(alloc, class, args)?;
+            heap.make(exception)
+        }
         _ => Ok(class),
     }
 }
