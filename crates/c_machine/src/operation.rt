@@ -18,7 +18,7 @@ use crate::ending::Trouble;
 use crate::execution::{Execution, held};
 use c_meaning::{Argument, CEnd, Code};
 use nu_base::{PutTrouble, Sink};
-use nu_value::{Entries, Entry, Heap, Items, Names, Object, Slots, Value};
+use nu_value::{Entry, Heap, Items, Object, Slots, Value};
 use op_forms::{Op, OpEnd};
 use runtime_table::{apply, fits};
 use std::alloc::{AllocError, Global};
