@@ -4,6 +4,7 @@ ghost use Rattle.std.specs.Prelude.{◌≡◌, [], ◌∷◌, ◌++◌, IfOk, On
 ghost use Rattle.std.specs.List.{flat_map};
 ghost use Rattle.nu_text.specs.Pieces.{joined};
 ghost use Rattle.nu_text.specs.Strings.{string_text};
+ghost use Rattle.c_meaning.specs.Written.{IsProgram, IsText};
 ghost use Rattle.c_meaning.specs.Text.{numbered, line_text, declaration_text, kind_text, code_pieces, header_pieces, function_text, heading_pieces, program_text};
 
 use crate::params::push_params;
@@ -13,8 +14,16 @@ use c_meaning::{CProgram, Function};
 use nu_value::Header;
 use std::alloc::{AllocError, Global};
 
-/// The text of a program: UTF-8 lines, each ended by LF, in the one spelling of each form.
-pub fn write(alloc: Global, program: &CProgram) -> Result<String, AllocError>
+/// The text of a program, in UTF-8: lines, each ended by LF, in the one spelling of each form.
+pub fn emit(alloc: Global, program: &CProgram) -> Result<Vec<u8>, AllocError>
+    requires { IsProgram program.now }
+    ensures { IfOk result (λ bytes. IsText bytes.items program.now) }
+{
+    let text = written(alloc, program)?;
+    Ok(text.into_bytes())
+}
+
+fn written(alloc: Global, program: &CProgram) -> Result<String, AllocError>
     ensures { IfOk result (λ text. string_bytes text ≡ program_text program.now) }
 {
     let mut text = String::new(alloc);

@@ -1,5 +1,6 @@
 -- The ends of modules, and what is undefined in a module's function.
-use Rattle.std.proofs.Common.{◌≡◌, ℕ, List, [], ◌++◌, Option, Some, None, refl, ap, append-nil, true, false, slice_get}
+use Rattle.std.proofs.Common.{◌≡◌, ℕ, List, [], ◌++◌, Bool, Option, Some, None, refl, ap, ◌∙◌, append-nil, arith, true, false, nat_lt, if◌then◌else◌, length, slice_get}
+use Rattle.std.proofs.lemmas.Bool.Decides.{nat_tests}
 use Rattle.nu_run.specs.declared.End.TheVariants as end
 use Rattle.nu_run.specs.declared.StopKind.TheVariants as stop
 use Rattle.nu_run.specs.Steps.{Halt}
@@ -13,14 +14,22 @@ use Rattle.nu_calls.specs.Traceback.{tail_text}
 use Rattle.c_meaning.specs.declared.code.Code.{Code}
 use Rattle.c_meaning.specs.declared.state.Activation.{Activation}
 use Rattle.c_meaning.specs.declared.state.Purpose.TheVariants as purpose
-use Rattle.c_meaning.specs.State.{State, undefined}
+use Rattle.c_meaning.specs.State.{State, undefined, next, with_running, slot_set}
 use Rattle.c_meaning.specs.declared.state.Uncaught.{Uncaught}
 use Rattle.c_meaning.specs.Step.{saves, pauses, asks_function, asks_report}
 use Rattle.c_machine.specs.Values.{is_function, names_function}
 
-pub saves_module : (s : State) (slot : ℕ) (v : Option Value) → saves s slot v purpose.Module ≡ undefined s
-saves_module s slot None = refl
-saves_module s slot (Some v) = refl
+-- a module's function has no slots
+pub saves_module : (s : State) (slot : ℕ) (v : Option Value) → s.running.slots ≡ [] → saves s slot v ≡ undefined s
+saves_module s slot None none = refl
+saves_module s slot (Some v) none = go (nat_lt slot (length s.running.slots)) (ap (λ l. nat_lt slot (length l)) none ∙ no_less slot)
+  where
+    no_less : (n : ℕ) → nat_lt n 0 ≡ false
+    no_less n = grind (arith, nat_tests)
+
+    go : (b : Bool) → b ≡ false → (if b then next (with_running s (slot_set s.running slot v)) else undefined s) ≡ undefined s
+    go true e = cc
+    go false e = refl
 
 pub pauses_module : (rules : Rules) (c : Code) (s : State) (number : ℕ) (v : Option Value) (below : List Activation) → pauses rules c s number v purpose.Module below ≡ undefined s
 pauses_module rules c s number None below = refl

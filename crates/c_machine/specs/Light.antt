@@ -1,13 +1,19 @@
 -- Statements that take no memory: stores, jumps, branches and the script's return, where no text is copied.
-use Rattle.std.specs.Prelude.{List, Option, Some, None, Bool, true, false, not, ◌&&◌, nat_eq}
+use Rattle.std.specs.Prelude.{◌≡◌, ◌<◌, ℕ, List, Option, Some, None, Bool, true, false, not, ◌&&◌, nat_eq}
 use Rattle.nu_value.specs.declared.value.Value.{Value}
 use Rattle.c_meaning.specs.declared.program.Stored.{Stored}
 use Rattle.c_meaning.specs.declared.program.Stored.TheVariants as stored
 use Rattle.c_meaning.specs.declared.program.Statement.{Statement}
 use Rattle.c_meaning.specs.declared.program.Statement.TheVariants as statement
 use Rattle.c_meaning.specs.declared.code.Placed.{Placed}
-use Rattle.c_meaning.specs.Step.{held}
+use Rattle.c_meaning.specs.declared.code.Code.{Code}
+use Rattle.c_meaning.specs.Step.{held, step}
+use Rattle.op_rules.specs.TableRules.{table_rules}
+use Rattle.nu_run.specs.Steps.{More}
 use Rattle.c_machine.specs.declared.execution.Execution.{Execution}
+use Rattle.c_machine.specs.Effects.{placed_for}
+use Rattle.c_machine.specs.Standing.{Outside, Standing, state_of, stands, printing}
+use Rattle.c_machine.specs.Walks.{gone}
 use Rattle.c_machine.specs.Values.{takes_text}
 
 abbrev pub is_light_store : List (Option Value) → Stored → Bool
@@ -29,3 +35,8 @@ is_light_statement x other = true
 abbrev pub is_light : Execution → Option Placed → Bool
 is_light x None = true
 is_light x (Some p) = is_light_statement x p.statement
+
+-- each of the next n statements takes no memory
+abbrev pub IsLightFor : Code → ℕ → Standing → Type 0
+IsLightFor c n a =
+    (t : ℕ) (x : Execution) (piece : List ℕ) → t < n → ((w : Outside) → gone (step table_rules c) t (stands a w) ≡ More (state_of x (printing w piece))) → is_light x (placed_for c x) ≡ true

@@ -18,7 +18,7 @@ printing w text = record { printed = w.printed ++ text; input = w.input }
 -- The state of the run. No operation asks a function or resumes a generator yet: the function of a module runs, alone.
 abbrev pub state_of : Execution → Outside → State
 state_of x w = record {
-  running = record { function = x.function; place = x.place; registers = x.registers; arguments = []; cells = []; pending = x.pending; purpose = purpose.Module };
+  running = record { function = x.function; place = x.place; registers = x.registers; slots = []; arguments = []; cells = []; pending = x.pending; purpose = purpose.Module };
   below = [];
   around = record { world = x.world; kept = []; input = w.input; frames = 1 };
   uncaught = None;

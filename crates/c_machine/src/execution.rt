@@ -15,7 +15,7 @@ ghost use Rattle.nu_calls.specs.Scripts.{report_function};
 use crate::traceback::uncaught_text;
 use c_meaning::{CEnd, Code, Operand, Placed, Statement, Stored};
 use nu_run::StopKind;
-use nu_value::{Object, Slots, Value};
+use nu_value::{Integer, Object, Slots, Value};
 use runtime_table::World;
 use std::alloc::{AllocError, Global};
 
@@ -47,7 +47,7 @@ pub(crate) fn held(registers: &Slots, operand: &Operand) -> Result<Option<Value>
         Operand::None => Ok(Some(Value::None)),
         Operand::True => Ok(Some(Value::Bool(true))),
         Operand::False => Ok(Some(Value::Bool(false))),
-        Operand::Int(number) => Ok(Some(Value::Int(*number))),
+        Operand::Int(number) => Ok(Some(Value::Int(Integer::new(*number)))),
         Operand::Str(text) => Ok(Some(Value::Str(text.share()?))),
     }
 }

@@ -8,7 +8,7 @@ ghost use Rattle.nu_run.specs.Steps.{More};
 ghost use Rattle.c_meaning.specs.State.{printed_in};
 ghost use Rattle.c_meaning.specs.Step.{step};
 ghost use Rattle.c_machine.specs.Effects.{placed_for};
-ghost use Rattle.c_machine.specs.Light.{is_light};
+ghost use Rattle.c_machine.specs.Light.{is_light, IsLightFor};
 ghost use Rattle.c_machine.specs.Standing.{Outside, state_of};
 ghost use Rattle.c_machine.specs.Walks.{Leads};
 ghost use Rattle.c_machine.specs.Machines.{IsFresh, answer_at_rest, run_from};
@@ -49,8 +49,15 @@ pub fn start(alloc: Global, program: CProgram) -> Result<Machine, Memory>
     ensures { IfOk result (λ machine. IsFresh machine program) }
 {
     let (code, codes) = code_of(alloc, program)?;
-    let mut execution = Execution::new(alloc, codes)?;
-    let end = execution.begin_first(alloc, &code)?;
+    let Ok(mut execution) = Execution::new(alloc, codes) else {
+        drop(code);
+        return Err(Memory);
+    };
+    let Ok(end) = execution.begin_first(alloc, &code) else {
+        drop(execution);
+        drop(code);
+        return Err(Memory);
+    };
     Ok(Machine {
         alloc,
         code,
@@ -136,6 +143,9 @@ impl Machine {
         ensures code { self.new.code ≡ self.old.code }
         ensures count { CountsCall (O.faults out.old) (O.faults out.new) result }
         ensures input { input.new ≡ input.old }
+
+        // It takes no memory where no step does.
+        ensures sure { answer_at_rest self.old ≡ None → IsLightFor self.old.code steps self.old.standing → IsOk result }
     {
         if let Some(answer) = self.at_rest() {
             return answer;

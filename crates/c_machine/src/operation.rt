@@ -18,7 +18,7 @@ use crate::ending::Trouble;
 use crate::execution::{Execution, held};
 use c_meaning::{Argument, CEnd, Code};
 use nu_base::{PutTrouble, Sink};
-use nu_value::{Entries, Entry, Heap, Items, Names, Object, Slots, Value};
+use nu_value::{Entry, Heap, Items, Object, Slots, Value};
 use op_forms::{Op, OpEnd};
 use runtime_table::{apply, fits};
 use std::alloc::{AllocError, Global};
@@ -67,13 +67,10 @@ fn exception_made(
     ensures heap { OnOk result (heap.new ≡ (exceptions.exception_made class args heap.old).heap) }
 {
     match heap.get(class) {
-        Some(Object::Class { .. }) => heap.make(Object::Exception {
-            class,
-            args,
-            entries: Entries::new(alloc),
-            fields: Names::new(alloc),
-            cause: None,
-        }),
+        Some(Object::Class { .. }) => {
+            let exception = Object::exception(alloc, class, args)?;
+            heap.make(exception)
+        }
         _ => Ok(class),
     }
 }

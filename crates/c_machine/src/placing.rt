@@ -90,7 +90,13 @@ fn placed(alloc: Global, marks: &Marks, statement: Statement) -> Result<Placed, 
         Some(label) => goal_of(marks, label),
         None => None,
     };
-    let cases = cases_of(alloc, marks, &statement)?;
+    let cases = match cases_of(alloc, marks, &statement) {
+        Ok(cases) => cases,
+        Err(error) => {
+            drop(statement);
+            return Err(error);
+        }
+    };
     Ok(Placed {
         statement,
         goal,

@@ -16,7 +16,7 @@ ghost use Rattle.c_machine.specs.InPlace.{bool_of, given, int_of, is_quick, trut
 use crate::execution::held;
 use crate::lookup::{Hint, look_up, value_in};
 use c_meaning::{Argument, Operand};
-use nu_value::{Slots, Value};
+use nu_value::{Integer, Slots, Value};
 use op_forms::Op;
 use op_rules::{Computed, compute};
 use runtime_table::World;
@@ -63,7 +63,7 @@ fn int_at(registers: &Slots, operand: &Operand) -> Option<i128>
 {
     if let Operand::Register(register) = operand {
         return match registers.get(*register as usize) {
-            Some(Some(Value::Int(number))) => Some(*number),
+            Some(Some(Value::Int(number))) => Some(number.get()),
             _ => None,
         };
     }
@@ -79,7 +79,7 @@ fn truth(value: &Value) -> Option<bool>
     ensures { result ≡ truth_of (Some value.now) }
 {
     if let Value::Int(number) = value {
-        return Some(*number != 0);
+        return Some(number.get() != 0);
     }
     if let Value::Bool(truth) = value {
         return Some(*truth);
@@ -163,7 +163,7 @@ pub(crate) fn plain_at(registers: &Slots, operand: &Operand) -> Option<Value>
         };
     }
     if let Operand::Int(number) = operand {
-        return Some(Value::Int(*number));
+        return Some(Value::Int(Integer::new(*number)));
     }
     None
 }
@@ -185,7 +185,7 @@ fn number(found: Computed) -> Option<Value>
     ensures { IfSome result (λ v. computed_end found ≡ opend.Give v) }
 {
     match found {
-        Computed::Int(number) => Some(Value::Int(number)),
+        Computed::Int(number) => Some(Value::Int(Integer::new(number))),
         _ => None,
     }
 }

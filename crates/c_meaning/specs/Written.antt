@@ -9,7 +9,6 @@ use Rattle.op_forms.specs.declared.op.Op.{Op}
 use Rattle.op_forms.specs.declared.signature.ArgumentKind.{ArgumentKind}
 use Rattle.op_forms.specs.declared.signature.ArgumentKind.TheVariants as kind
 use Rattle.op_forms.specs.Signature.{arguments, further}
-use Rattle.op_rules.specs.Table.{is_there}
 use Rattle.c_meaning.specs.declared.program.Operand.{Operand}
 use Rattle.c_meaning.specs.declared.program.Operand.TheVariants as operand
 use Rattle.c_meaning.specs.declared.program.Argument.{Argument}
@@ -67,9 +66,8 @@ all_taken [] more [] = true
 all_taken [] None (a ∷ more_arguments) = false
 all_taken [] (Some k) (a ∷ more_arguments) = takes k a && all_taken [] (Some k) more_arguments
 
--- an operation with its arguments; one whose row doesn't stand isn't C yet
+-- an operation with its arguments
 pub record IsOperation (registers : ℕ) (o : Op) (at : ℕ) (given : List Argument) (fail : ℕ) : Type 0 where
-  pub there : is_there o ≡ true
   pub line : IsLine at
   pub each : AllByRecursion (IsArgument registers) given
   pub taken : all_taken (arguments o) (further o) given ≡ true
@@ -142,7 +140,6 @@ rank_behind param.Star = 3
 rank_behind param.Key = 3
 rank_behind param.Double = 5
 
--- parameters in order, from a rank on
 -- whether parameters stand in their order, from a rank on
 abbrev pub in_order : ℕ → List (ParamKind × List ℕ) → Bool
 in_order least [] = true
@@ -152,8 +149,6 @@ pub record IsHeader (h : header.Header) : Type 0 where
   pub scope : IsUtf8 h.scope
   pub params : AllByRecursion IsParam h.params
   pub order : in_order 0 h.params ≡ true
-  -- generators are not C yet
-  pub kind : h.generator ≡ false
   pub from_one : 0 < h.line
   pub line : IsLine h.line
 

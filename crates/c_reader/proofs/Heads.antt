@@ -1,5 +1,5 @@
 -- What stands in front of a function's body, and whole functions: no others stand where they do.
-use Rattle.std.proofs.Common.{◌≡◌, ℕ, ◌^◌, List, [], ◌∷◌, ◌++◌, get_or, drop, refl, sym, ◌∙◌, ap, subst, append_assoc, arith, decimal, false, Option, IfNone, Bor}
+use Rattle.std.proofs.Common.{◌≡◌, ℕ, ◌^◌, List, [], ◌∷◌, ◌++◌, get_or, drop, refl, sym, ◌∙◌, ap, subst, append_assoc, arith, decimal, Bool, true, false, Option, IfNone, Bor}
 use Rattle.std.specs.Prelude.{codes}
 use Rattle.std.specs.List.{flat_map}
 use Rattle.nu_text.specs.Pieces.{before}
@@ -16,7 +16,7 @@ use Rattle.c_meaning.specs.Text.{params_text, kind_text, line_text, line_pieces,
 use Rattle.c_reader.specs.Pieces.{StringStands, NumberStands}
 use Rattle.c_reader.specs.Statements.{IsNotFront}
 use Rattle.c_reader.specs.Params.{ParamsStand}
-use Rattle.c_reader.specs.Functions.{OpeningStands, FrontStands, BackStands, DeclarationStands, HeaderStands, BodyStands, FunctionStands}
+use Rattle.c_reader.specs.Functions.{OpeningStands, FrontStands, KindStands, BackStands, DeclarationStands, HeaderStands, BodyStands, FunctionStands}
 use Rattle.c_reader.proofs.Numbers.{same_rest, mapped_none, number_both}
 use Rattle.c_reader.proofs.Shapes.{params_both}
 use Rattle.c_reader.proofs.Declarations.{declaration_both}
@@ -86,32 +86,48 @@ front_both n text scope scope' params params' x y s t =
     ((front_comma n text behind (codes ", " ++ inner) scope scope' params' y c r t).0, last.0, ap (drop 2) last.1)
 
 -- the rest of the first line
-pub back_slots : (text behind : List ℕ) (slots at : ℕ) (rest : List ℕ) → text ≡ codes "0, " ++ behind → BackStands text slots at rest → NumberStands (2 ^ 64) (codes ", ") behind slots (decimal at ++ (codes ")\n" ++ rest))
-back_slots text behind slots at rest e s = record { fits = s.slots_are; spelled = ap (drop 3) (sym e ∙ s.spelled) }
+kind_both : (k l : Bool) (x y : List ℕ) → kind_text k ++ x ≡ kind_text l ++ y → (k ≡ l) × (x ≡ y)
+kind_both false false x y e = (refl, ap (drop 1) e)
+kind_both false true x y e = let bad : 48 ≡ 49 = ap (λ t. get_or t 0 0) e in absurd (omega (arith, bad))
+kind_both true false x y e = let bad : 49 ≡ 48 = ap (λ t. get_or t 0 0) e in absurd (omega (arith, bad))
+kind_both true true x y e = (refl, ap (drop 1) e)
 
-pub back_line : (text behind after : List ℕ) (read slots at : ℕ) (rest : List ℕ) → text ≡ codes "0, " ++ behind → NumberStands (2 ^ 64) (codes ", ") behind read after → BackStands text slots at rest → (read ≡ slots) × NumberStands (2 ^ 32) (codes ")\n") after at rest
-back_line text behind after read slots at rest e n s =
-    let both = number_both (2 ^ 64) (codes ", ") behind after (decimal at ++ (codes ")\n" ++ rest)) read slots (omega arith) refl n (back_slots text behind slots at rest e s) in
-    (both.0, record { fits = s.line; spelled = both.1 })
+pub no_kind : (text : List ℕ) → ((rest : List ℕ) → text ≡ codes "0, " ++ rest → ⊥) → ((rest : List ℕ) → text ≡ codes "1, " ++ rest → ⊥) → (generator : Bool) (rest : List ℕ) → KindStands text generator rest → ⊥
+no_kind text none other false rest s = none rest s.spelled
+no_kind text none other true rest s = other rest s.spelled
 
-pub back_both : (text : List ℕ) (slots slots' at at' : ℕ) (x y : List ℕ) → BackStands text slots at x → BackStands text slots' at' y → (slots ≡ slots') × (at ≡ at') × (x ≡ y)
-back_both text slots slots' at at' x y s t =
+pub back_kind : (text : List ℕ) (generator : Bool) (slots at : ℕ) (rest : List ℕ) → BackStands text generator slots at rest → KindStands text generator (decimal slots ++ (codes ", " ++ (decimal at ++ (codes ")\n" ++ rest))))
+back_kind text generator slots at rest s = record { spelled = s.spelled }
+
+pub back_slots : (text behind : List ℕ) (k generator : Bool) (slots at : ℕ) (rest : List ℕ) → KindStands text k behind → BackStands text generator slots at rest → (k ≡ generator) × NumberStands (2 ^ 64) (codes ", ") behind slots (decimal at ++ (codes ")\n" ++ rest))
+back_slots text behind k generator slots at rest e s =
+    let both = kind_both k generator (codes ", " ++ behind) (codes ", " ++ (decimal slots ++ (codes ", " ++ (decimal at ++ (codes ")\n" ++ rest))))) (sym e.spelled ∙ s.spelled) in
+    (both.0, record { fits = s.slots_are; spelled = ap (drop 2) both.1 })
+
+pub back_line : (text behind after : List ℕ) (k generator : Bool) (read slots at : ℕ) (rest : List ℕ) → KindStands text k behind → NumberStands (2 ^ 64) (codes ", ") behind read after → BackStands text generator slots at rest → (k ≡ generator) × (read ≡ slots) × NumberStands (2 ^ 32) (codes ")\n") after at rest
+back_line text behind after k generator read slots at rest e n s =
+    let there = back_slots text behind k generator slots at rest e s in
+    let both = number_both (2 ^ 64) (codes ", ") behind after (decimal at ++ (codes ")\n" ++ rest)) read slots (omega arith) refl n there.1 in
+    (there.0, both.0, record { fits = s.line; spelled = both.1 })
+
+pub back_both : (text : List ℕ) (k generator : Bool) (slots slots' at at' : ℕ) (x y : List ℕ) → BackStands text k slots at x → BackStands text generator slots' at' y → (k ≡ generator) × (slots ≡ slots') × (at ≡ at') × (x ≡ y)
+back_both text k generator slots slots' at at' x y s t =
     let behind = decimal slots ++ (codes ", " ++ (decimal at ++ (codes ")\n" ++ x))) in
-    let line = back_line text behind (decimal at ++ (codes ")\n" ++ x)) slots slots' at' y s.spelled (record { fits = s.slots_are; spelled = refl }) t in
-    let both = number_both (2 ^ 32) (codes ")\n") (decimal at ++ (codes ")\n" ++ x)) x y at at' (omega arith) refl (record { fits = s.line; spelled = refl }) line.1 in
-    (line.0, both.0, both.1)
+    let line = back_line text behind (decimal at ++ (codes ")\n" ++ x)) k generator slots slots' at' y (back_kind text k slots at x s) (record { fits = s.slots_are; spelled = refl }) t in
+    let both = number_both (2 ^ 32) (codes ")\n") (decimal at ++ (codes ")\n" ++ x)) x y at at' (omega arith) refl (record { fits = s.line; spelled = refl }) line.2 in
+    (line.0, line.1, both.0, both.1)
 
-pub no_line_zero : (text behind after : List ℕ) (read line : ℕ) (x : List ℕ) → text ≡ codes "0, " ++ behind → NumberStands (2 ^ 64) (codes ", ") behind read after → NumberStands (2 ^ 32) (codes ")\n") after line x → line ≡ 0
-    → (slots at : ℕ) (rest : List ℕ) → BackStands text slots at rest → ⊥
-no_line_zero text behind after read line x e n m zero slots at rest s =
-    let both = number_both (2 ^ 32) (codes ")\n") after x rest line at (omega arith) refl m (back_line text behind after read slots at rest e n s).1 in
+pub no_line_zero : (text behind after : List ℕ) (k : Bool) (read line : ℕ) (x : List ℕ) → KindStands text k behind → NumberStands (2 ^ 64) (codes ", ") behind read after → NumberStands (2 ^ 32) (codes ")\n") after line x → line ≡ 0
+    → (generator : Bool) (slots at : ℕ) (rest : List ℕ) → BackStands text generator slots at rest → ⊥
+no_line_zero text behind after k read line x e n m zero generator slots at rest s =
+    let both = number_both (2 ^ 32) (codes ")\n") after x rest line at (omega arith) refl m (back_line text behind after k generator read slots at rest e n s).2 in
     let some = s.from_one in
     let same = both.0 in
     omega (arith, some, same, zero)
 
 -- the header's parts
-abbrev back_text : ℕ → ℕ → List ℕ → List ℕ
-back_text slots at rest = before (codes "0, " ∷ decimal slots ∷ codes ", " ∷ decimal at ∷ codes ")\n" ∷ []) rest
+abbrev back_text : Bool → ℕ → ℕ → List ℕ → List ℕ
+back_text generator slots at rest = before (kind_text generator ∷ codes ", " ∷ decimal slots ∷ codes ", " ∷ decimal at ∷ codes ")\n" ∷ []) rest
 
 abbrev opening_text : ℕ → List ℕ → List ℕ
 opening_text n rest = before (codes "nu nu_code_" ∷ decimal n ∷ codes "(nu_frame *fr)\n" ∷ []) (codes "{\n" ++ rest)
@@ -121,23 +137,21 @@ declared_text registers rest = declaration_text registers ++ rest
 
 -- what stands behind the parameters
 abbrev behind_params : ℕ → header.Header → ℕ → ℕ → List ℕ → List ℕ
-behind_params n h slots registers rest = back_text slots h.line (opening_text n (declared_text registers rest))
+behind_params n h slots registers rest = back_text h.generator slots h.line (opening_text n (declared_text registers rest))
 
 header_front : (n : ℕ) (text : List ℕ) (h : header.Header) (slots registers : ℕ) (rest : List ℕ) → HeaderStands n text h slots registers rest → FrontStands n text h.scope h.params (behind_params n h slots registers rest)
 header_front n text h slots registers rest s = record {
   scope_is = s.is.scope;
   each = s.is.params;
   order = s.is.order;
-  spelled = s.spelled ∙ before_is (code_pieces n h slots) (opening_text n (declared_text registers rest))
-      ∙ ap (λ k. before (codes "NU_CODE(" ∷ decimal n ∷ codes ", " ∷ string_text h.scope ∷ codes ", " ∷ string_text (params_text h.params) ∷ codes ", " ∷ kind_text k ∷ codes ", " ∷ decimal slots ∷ codes ", " ∷ decimal h.line ∷ codes ")\n" ∷ [])
-      (opening_text n (declared_text registers rest))) s.is.kind;
+  spelled = s.spelled ∙ before_is (code_pieces n h slots) (opening_text n (declared_text registers rest));
 }
 
 pub no_front : (n : ℕ) (text : List ℕ) → ((scope : List ℕ) (params : List (ParamKind × List ℕ)) (rest : List ℕ) → FrontStands n text scope params rest → ⊥) → (h : header.Header) (slots registers : ℕ) (rest : List ℕ) → HeaderStands n text h slots registers rest → ⊥
 no_front n text none h slots registers rest s = none h.scope h.params (behind_params n h slots registers rest) (header_front n text h slots registers rest s)
 
 pub header_back : (n : ℕ) (text behind scope : List ℕ) (params : List (ParamKind × List ℕ)) (h : header.Header) (slots registers : ℕ) (rest : List ℕ) → FrontStands n text scope params behind → HeaderStands n text h slots registers rest
-    → BackStands behind slots h.line (opening_text n (declared_text registers rest))
+    → BackStands behind h.generator slots h.line (opening_text n (declared_text registers rest))
 header_back n text behind scope params h slots registers rest f s = record {
   slots_are = s.slots_are;
   from_one = s.is.from_one;
@@ -145,37 +159,37 @@ header_back n text behind scope params h slots registers rest f s = record {
   spelled = (front_both n text scope h.scope params h.params behind (behind_params n h slots registers rest) f (header_front n text h slots registers rest s)).2;
 }
 
-pub header_opening : (n : ℕ) (text behind after scope : List ℕ) (params : List (ParamKind × List ℕ)) (m at : ℕ) (h : header.Header) (slots registers : ℕ) (rest : List ℕ) → FrontStands n text scope params behind → BackStands behind m at after → HeaderStands n text h slots registers rest
+pub header_opening : (n : ℕ) (text behind after scope : List ℕ) (params : List (ParamKind × List ℕ)) (k : Bool) (m at : ℕ) (h : header.Header) (slots registers : ℕ) (rest : List ℕ) → FrontStands n text scope params behind → BackStands behind k m at after → HeaderStands n text h slots registers rest
     → OpeningStands (codes "nu nu_code_") n (codes "(nu_frame *fr)\n") after (codes "{\n" ++ declared_text registers rest)
-header_opening n text behind after scope params m at h slots registers rest f b s =
-    record { spelled = (back_both behind m slots at h.line after (opening_text n (declared_text registers rest)) b (header_back n text behind scope params h slots registers rest f s)).2 }
+header_opening n text behind after scope params k m at h slots registers rest f b s =
+    record { spelled = (back_both behind k h.generator m slots at h.line after (opening_text n (declared_text registers rest)) b (header_back n text behind scope params h slots registers rest f s)).3 }
 
-pub header_brace : (n : ℕ) (text behind after opened scope : List ℕ) (params : List (ParamKind × List ℕ)) (m at : ℕ) (h : header.Header) (slots registers : ℕ) (rest : List ℕ) → FrontStands n text scope params behind → BackStands behind m at after
+pub header_brace : (n : ℕ) (text behind after opened scope : List ℕ) (params : List (ParamKind × List ℕ)) (k : Bool) (m at : ℕ) (h : header.Header) (slots registers : ℕ) (rest : List ℕ) → FrontStands n text scope params behind → BackStands behind k m at after
     → OpeningStands (codes "nu nu_code_") n (codes "(nu_frame *fr)\n") after opened → HeaderStands n text h slots registers rest → opened ≡ codes "{\n" ++ declared_text registers rest
-header_brace n text behind after opened scope params m at h slots registers rest f b o s =
-    opening_both (codes "nu nu_code_") n (codes "(nu_frame *fr)\n") after opened (codes "{\n" ++ declared_text registers rest) o (header_opening n text behind after scope params m at h slots registers rest f b s)
+header_brace n text behind after opened scope params k m at h slots registers rest f b o s =
+    opening_both (codes "nu nu_code_") n (codes "(nu_frame *fr)\n") after opened (codes "{\n" ++ declared_text registers rest) o (header_opening n text behind after scope params k m at h slots registers rest f b s)
 
-pub header_declared : (n : ℕ) (text behind after opened inner scope : List ℕ) (params : List (ParamKind × List ℕ)) (m at : ℕ) (h : header.Header) (slots registers : ℕ) (rest : List ℕ) → FrontStands n text scope params behind → BackStands behind m at after
+pub header_declared : (n : ℕ) (text behind after opened inner scope : List ℕ) (params : List (ParamKind × List ℕ)) (k : Bool) (m at : ℕ) (h : header.Header) (slots registers : ℕ) (rest : List ℕ) → FrontStands n text scope params behind → BackStands behind k m at after
     → OpeningStands (codes "nu nu_code_") n (codes "(nu_frame *fr)\n") after opened → opened ≡ codes "{\n" ++ inner → HeaderStands n text h slots registers rest → DeclarationStands inner registers rest
-header_declared n text behind after opened inner scope params m at h slots registers rest f b o e s = record {
+header_declared n text behind after opened inner scope params k m at h slots registers rest f b o e s = record {
   fits = s.registers_are;
-  spelled = ap (drop 2) (sym e ∙ header_brace n text behind after opened scope params m at h slots registers rest f b o s);
+  spelled = ap (drop 2) (sym e ∙ header_brace n text behind after opened scope params k m at h slots registers rest f b o s);
   all = s.all;
 }
 
-abbrev made : List ℕ → List (ParamKind × List ℕ) → ℕ → header.Header
-made scope params at = record { scope = scope; params = params; generator = false; line = at }
+abbrev made : List ℕ → List (ParamKind × List ℕ) → Bool → ℕ → header.Header
+made scope params generator at = record { scope = scope; params = params; generator = generator; line = at }
 
-pub header_of : (n : ℕ) (text behind after opened inner scope : List ℕ) (params : List (ParamKind × List ℕ)) (slots at registers : ℕ) (rest : List ℕ) → FrontStands n text scope params behind → BackStands behind slots at after
-    → OpeningStands (codes "nu nu_code_") n (codes "(nu_frame *fr)\n") after opened → opened ≡ codes "{\n" ++ inner → DeclarationStands inner registers rest → HeaderStands n text (made scope params at) slots registers rest
-header_of n text behind after opened inner scope params slots at registers rest f b o e d = record {
-  is = record { scope = f.scope_is; params = f.each; order = f.order; kind = refl; from_one = b.from_one; line = b.line };
+pub header_of : (n : ℕ) (text behind after opened inner scope : List ℕ) (params : List (ParamKind × List ℕ)) (generator : Bool) (slots at registers : ℕ) (rest : List ℕ) → FrontStands n text scope params behind → BackStands behind generator slots at after
+    → OpeningStands (codes "nu nu_code_") n (codes "(nu_frame *fr)\n") after opened → opened ≡ codes "{\n" ++ inner → DeclarationStands inner registers rest → HeaderStands n text (made scope params generator at) slots registers rest
+header_of n text behind after opened inner scope params generator slots at registers rest f b o e d = record {
+  is = record { scope = f.scope_is; params = f.each; order = f.order; from_one = b.from_one; line = b.line };
   slots_are = b.slots_are;
   registers_are = d.fits;
   spelled = f.spelled ∙ ap (before (codes "NU_CODE(" ∷ decimal n ∷ codes ", " ∷ string_text scope ∷ codes ", " ∷ string_text (params_text params) ∷ codes ", " ∷ []))
-      (b.spelled ∙ ap (before (codes "0, " ∷ decimal slots ∷ codes ", " ∷ decimal at ∷ codes ")\n" ∷ []))
+      (b.spelled ∙ ap (before (kind_text generator ∷ codes ", " ∷ decimal slots ∷ codes ", " ∷ decimal at ∷ codes ")\n" ∷ []))
       (o.spelled ∙ ap (before (codes "nu nu_code_" ∷ decimal n ∷ codes "(nu_frame *fr)\n" ∷ [])) (e ∙ ap (λ t. codes "{\n" ++ t) d.spelled)))
-      ∙ sym (before_is (code_pieces n (made scope params at) slots) (opening_text n (declaration_text registers ++ rest)));
+      ∙ sym (before_is (code_pieces n (made scope params generator at) slots) (opening_text n (declaration_text registers ++ rest)));
   all = d.all;
 }
 
@@ -186,12 +200,12 @@ header_both n text h k m slots q registers x y s t =
     let f = header_front n text h m q x s in
     let front = front_both n text h.scope k.scope h.params k.params behind (behind_params n k slots registers y) f (header_front n text k slots registers y t) in
     let b = header_back n text behind h.scope h.params h m q x f s in
-    let back = back_both behind m slots h.line k.line after (opening_text n (declared_text registers y)) b (header_back n text behind h.scope h.params k slots registers y f t) in
-    let o = header_opening n text behind after h.scope h.params m h.line h m q x f b s in
-    let d = header_declared n text behind after (codes "{\n" ++ declared_text q x) (declared_text q x) h.scope h.params m h.line h m q x f b o refl s in
-    let other = header_declared n text behind after (codes "{\n" ++ declared_text q x) (declared_text q x) h.scope h.params m h.line k slots registers y f b o refl t in
+    let back = back_both behind h.generator k.generator m slots h.line k.line after (opening_text n (declared_text registers y)) b (header_back n text behind h.scope h.params k slots registers y f t) in
+    let o = header_opening n text behind after h.scope h.params h.generator m h.line h m q x f b s in
+    let d = header_declared n text behind after (codes "{\n" ++ declared_text q x) (declared_text q x) h.scope h.params h.generator m h.line h m q x f b o refl s in
+    let other = header_declared n text behind after (codes "{\n" ++ declared_text q x) (declared_text q x) h.scope h.params h.generator m h.line k slots registers y f b o refl t in
     let declared = declaration_both (declared_text q x) q registers x y d other in
-    (same h k front.0 front.1 (s.is.kind ∙ sym t.is.kind) back.1, back.0, declared.0, declared.1)
+    (same h k front.0 front.1 back.0 back.2, back.1, declared.0, declared.1)
   where
     same : (h k : header.Header) → h.scope ≡ k.scope → h.params ≡ k.params → h.generator ≡ k.generator → h.line ≡ k.line → h ≡ k
     same h k a b c d =

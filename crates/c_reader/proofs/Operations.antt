@@ -13,7 +13,6 @@ use Rattle.c_meaning.specs.declared.program.Argument.TheVariants as argument
 use Rattle.c_meaning.specs.declared.program.Stored.TheVariants as stored
 use Rattle.c_meaning.specs.Text.{argument_pieces, argument_text, fail_piece}
 use Rattle.op_forms.specs.Signature.{arguments, further}
-use Rattle.op_rules.specs.Table.{is_there}
 use Rattle.c_meaning.specs.Written.{IsArgument, all_taken}
 use Rattle.c_reader.specs.Pieces.{BareStands, FieldStands}
 use Rattle.c_reader.specs.Statements.{IsNotFront, ArgumentStands, ArgumentsStand, NameStands, HeadStands, StoredStands}
@@ -108,14 +107,7 @@ operation_same registers text behind after o p m at read given fail rest small h
   (arguments_both registers behind read given after (behind_given fail rest) small g (operation_given registers text behind o p m at given fail rest h s)).0,
 )
 
--- an operation that isn't there, or doesn't take its arguments
-pub not_there : (registers : ℕ) (text behind after : List ℕ) (p : Op) (m : ℕ) (read : List Argument) → registers ≤ 2 ^ 64 → HeadStands text p m behind → ArgumentsStand registers behind read after → is_there p ≡ false
-    → (o : Op) (at : ℕ) (given : List Argument) (fail : ℕ) (rest : List ℕ) → StoredStands registers text (stored.Operation o at given fail) rest → ⊥
-not_there registers text behind after p m read small h g e o at given fail rest s =
-    let same = (operation_same registers text behind after o p m at read given fail rest small h g s).0 in
-    let there : is_there p ≡ true = ap is_there same ∙ s.is.there in
-    true≢false (sym there ∙ e)
-
+-- an operation that doesn't take its arguments
 pub not_taken : (registers : ℕ) (text behind after : List ℕ) (p : Op) (m : ℕ) (read : List Argument) → registers ≤ 2 ^ 64 → HeadStands text p m behind → ArgumentsStand registers behind read after → all_taken (arguments p) (further p) read ≡ false
     → (o : Op) (at : ℕ) (given : List Argument) (fail : ℕ) (rest : List ℕ) → StoredStands registers text (stored.Operation o at given fail) rest → ⊥
 not_taken registers text behind after p m read small h g e o at given fail rest s =
@@ -124,9 +116,9 @@ not_taken registers text behind after p m read small h g e o at given fail rest 
     true≢false (sym taken ∙ e)
 
 pub operation_of : (registers : ℕ) (text behind after : List ℕ) (o : Op) (at : ℕ) (given : List Argument) (fail : ℕ) (rest : List ℕ) → HeadStands text o at behind → ArgumentsStand registers behind given after → FieldStands (2 ^ 64) fail_piece (codes ";\n") after fail rest
-    → is_there o ≡ true → all_taken (arguments o) (further o) given ≡ true → StoredStands registers text (stored.Operation o at given fail) rest
-operation_of registers text behind after o at given fail rest h g f there taken = record {
-  is = record { there = there; line = h.line; each = g.each; taken = taken; label = f.fits };
+    → all_taken (arguments o) (further o) given ≡ true → StoredStands registers text (stored.Operation o at given fail) rest
+operation_of registers text behind after o at given fail rest h g f taken = record {
+  is = record { line = h.line; each = g.each; taken = taken; label = f.fits };
   spelled = h.spelled ∙ ap (before (codes "nu_" ∷ op_name o ∷ codes "(fr, " ∷ decimal at ∷ [])) (g.spelled ∙ ap (λ l. flat_map argument_text given ++ l) f.spelled);
 }
 

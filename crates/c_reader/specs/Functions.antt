@@ -1,5 +1,5 @@
 -- Functions at the front of a text, in their parts, each with the rest behind it.
-use Rattle.std.specs.Prelude.{◌≡◌, ℕ, ◌<◌, List, [], ◌∷◌, ◌++◌, true, codes, decimal, IsUtf8}
+use Rattle.std.specs.Prelude.{◌≡◌, ℕ, ◌<◌, List, [], ◌∷◌, ◌++◌, Bool, true, codes, decimal, IsUtf8}
 use Rattle.std.specs.List.{AllByRecursion, flat_map}
 use Rattle.nu_text.specs.Pieces.{before}
 use Rattle.nu_text.specs.Strings.{string_text}
@@ -7,7 +7,7 @@ use Rattle.nu_value.specs.declared.header.ParamKind.{ParamKind}
 use Rattle.nu_value.specs.declared.header.Header as header
 use Rattle.c_meaning.specs.declared.program.Line.{Line}
 use Rattle.c_meaning.specs.declared.program.Function as function
-use Rattle.c_meaning.specs.Text.{params_text, line_text, declaration_text, header_pieces, function_text}
+use Rattle.c_meaning.specs.Text.{params_text, kind_text, line_text, declaration_text, header_pieces, function_text}
 use Rattle.c_meaning.specs.Written.{IsNumber, IsLine, IsBodyLine, Once, label_of, IsParam, in_order, IsHeader, IsFunction}
 use Rattle.c_reader.specs.Statements.{IsNotFront}
 
@@ -22,12 +22,16 @@ pub record FrontStands (number : ℕ) (text scope : List ℕ) (params : List (Pa
   pub order : in_order 0 params ≡ true
   pub spelled : text ≡ before (codes "NU_CODE(" ∷ decimal number ∷ codes ", " ∷ string_text scope ∷ codes ", " ∷ string_text (params_text params) ∷ codes ", " ∷ []) rest
 
+-- its kind
+pub record KindStands (text : List ℕ) (generator : Bool) (rest : List ℕ) : Type 0 where
+  pub spelled : text ≡ before (kind_text generator ∷ codes ", " ∷ []) rest
+
 -- its kind, slots and line
-pub record BackStands (text : List ℕ) (slots at : ℕ) (rest : List ℕ) : Type 0 where
+pub record BackStands (text : List ℕ) (generator : Bool) (slots at : ℕ) (rest : List ℕ) : Type 0 where
   pub slots_are : IsNumber slots
   pub from_one : 0 < at
   pub line : IsLine at
-  pub spelled : text ≡ before (codes "0, " ∷ decimal slots ∷ codes ", " ∷ decimal at ∷ codes ")\n" ∷ []) rest
+  pub spelled : text ≡ before (kind_text generator ∷ codes ", " ∷ decimal slots ∷ codes ", " ∷ decimal at ∷ codes ")\n" ∷ []) rest
 
 -- the declaration of so many registers, behind which no other declaration follows
 pub record DeclarationStands (text : List ℕ) (registers : ℕ) (rest : List ℕ) : Type 0 where

@@ -1,13 +1,13 @@
 //! Functions.
 
-ghost use Rattle.std.specs.Prelude.{◌≡◌, ◌++◌, ℕ, List, [], ◌∷◌, IfOk, IfErr, IfSome, IfNone, true};
+ghost use Rattle.std.specs.Prelude.{◌≡◌, ◌++◌, ℕ, Bool, List, [], ◌∷◌, IfOk, IfErr, IfSome, IfNone, true};
 ghost use Rattle.nu_text.specs.Decimals.{ends_decimal};
 ghost use Rattle.nu_value.specs.declared.header.ParamKind.{ParamKind};
 ghost use Rattle.nu_value.specs.declared.header.Header.{Header};
 ghost use Rattle.c_meaning.specs.declared.program.Line.{Line};
 ghost use Rattle.c_meaning.specs.declared.program.Function.{Function};
 ghost use Rattle.c_reader.specs.Answers.{OnMiss};
-ghost use Rattle.c_reader.specs.Functions.{FrontStands, BackStands, OpeningStands, HeaderStands, BodyStands, FunctionStands};
+ghost use Rattle.c_reader.specs.Functions.{FrontStands, KindStands, BackStands, OpeningStands, HeaderStands, BodyStands, FunctionStands};
 
 use crate::declaration::declaration;
 use crate::end::Miss;
@@ -64,19 +64,33 @@ fn front(
     Ok(Some((scope, shape, rest)))
 }
 
-// The slots and the line behind them, and what follows. A function of kind 1 is not C yet.
-fn back(text: &[u8]) -> Option<(u64, u32, &[u8])>
-    ensures some { IfSome result (λ found. BackStands text.now found.0 found.1 found.2.now) }
-    ensures none { IfNone result ((slots at : ℕ) (rest : List ℕ)
-        → BackStands text.now slots at rest → ⊥) }
+// Whether the function is a generator's, and what follows.
+fn kind(text: &[u8]) -> Option<(bool, &[u8])>
+    ensures some { IfSome result (λ found. KindStands text.now found.0 found.1.now) }
+    ensures none { IfNone result ((generator : Bool) (rest : List ℕ)
+        → KindStands text.now generator rest → ⊥) }
 {
-    let behind = after(text, b"0, ")?;
+    if let Some(rest) = after(text, b"0, ") {
+        return Some((false, rest));
+    }
+    let rest = after(text, b"1, ")?;
+    Some((true, rest))
+}
+
+// The kind, the slots and the line behind them, and what follows.
+fn back(text: &[u8]) -> Option<(bool, u64, u32, &[u8])>
+    ensures some { IfSome result
+        (λ found. BackStands text.now found.0 found.1 found.2 found.3.now) }
+    ensures none { IfNone result ((generator : Bool) (slots at : ℕ) (rest : List ℕ)
+        → BackStands text.now generator slots at rest → ⊥) }
+{
+    let (generator, behind) = kind(text)?;
     let (slots, behind) = number(behind, NUMBERS, b", ")?;
     let (line, rest) = number(behind, LINES, b")\n")?;
     if line == 0 {
         return None;
     }
-    Some((slots, line as u32, rest))
+    Some((generator, slots, line as u32, rest))
 }
 
 // All that stands in front of the body of the function of this number, and what follows.
@@ -90,7 +104,7 @@ fn header(alloc: Global, text: &[u8], value: u64) -> Result<(Header, u64, u64, &
     let Some((scope, params, behind)) = front(alloc, text, value)? else {
         return Err(Miss::NotC { left: text.len() });
     };
-    let Some((slots, line, behind)) = back(behind) else {
+    let Some((generator, slots, line, behind)) = back(behind) else {
         return Err(Miss::NotC { left: text.len() });
     };
     let Some(opened) = given_number(behind, b"nu nu_code_", value, b"(nu_frame *fr)\n") else {
@@ -108,7 +122,7 @@ fn header(alloc: Global, text: &[u8], value: u64) -> Result<(Header, u64, u64, &
         Header {
             scope,
             params,
-            generator: false,
+            generator,
             line,
         },
         slots,
@@ -130,8 +144,12 @@ fn body(alloc: Global, text: &[u8], registers: u64) -> Result<(Items<Line>, &[u8
         let Some((one, behind)) = line(alloc, left, registers)? else {
             return Err(Miss::NotC { left: left.len() });
         };
-        let new = is_new(&mut labels, &one)?;
+        let Ok(new) = is_new(&mut labels, &one) else {
+            drop(one);
+            return Err(Miss::Memory);
+        };
         if !new {
+            drop(one);
             return Err(Miss::NotC { left: left.len() });
         }
         lines.push(one)?;

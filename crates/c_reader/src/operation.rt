@@ -77,9 +77,6 @@ pub(crate) fn operation(
     let Some((fail, rest)) = field(behind, b"); if (nu_bad(fr)) goto L", NUMBERS, b";\n") else {
         return Ok(None);
     };
-    if !op.is_there() {
-        return Ok(None);
-    }
     if !takes_all(op, arguments.as_slice()) {
         return Ok(None);
     }

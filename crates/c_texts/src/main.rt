@@ -2,7 +2,7 @@
 //! checks/ and bench/ compare and time the reader and the writer with it.
 #![tactic(auto)]
 
-use c_emit::write;
+use c_emit::emit;
 use c_reader::{ReadEnd, read};
 use std::io;
 use std::io::{BufWriter, Read, Write};
@@ -15,8 +15,8 @@ fn main(rt: HostRuntime) -> io::Result<()> {
     rt.stdin().take(LONGEST_TEXT).read_to_end(&mut text)?;
     let mut out = BufWriter::new(alloc, rt.stdout())?;
     match read(alloc, &text) {
-        Ok(program) => match write(alloc, &program) {
-            Ok(written) => out.write_all(written.as_bytes())?,
+        Ok(program) => match emit(alloc, &program) {
+            Ok(written) => out.write_all(&written)?,
             Err(_) => writeln!(out, "Memory")?,
         },
         Err(ReadEnd::NotC { line }) => writeln!(out, "not C, line {line}")?,

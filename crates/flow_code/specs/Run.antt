@@ -7,8 +7,6 @@ use Rattle.nu_value.specs.declared.header.Header.{Header}
 use Rattle.nu_calls.specs.Surroundings.{Surroundings}
 use Rattle.nu_calls.specs.Calls.{of_kind}
 use Rattle.op_forms.specs.Rules.{Rules}
-use Rattle.flow_code.specs.declared.cut.CutFunction.{CutFunction}
-use Rattle.flow_code.specs.declared.cut.CutScript.{CutScript}
 use Rattle.flow_code.specs.declared.function.FlatFunction.{FlatFunction}
 use Rattle.flow_code.specs.declared.function.FlatScript.{FlatScript}
 use Rattle.flow_code.specs.declared.statement.Line.{Line}
@@ -70,21 +68,3 @@ machine_run m input n = on_step (begun m input) (run (step m) printed n)
 
 abbrev pub flat_run : Rules → FlatScript → List ℕ → ℕ → Run
 flat_run rules script input = machine_run (functions rules script) input
-
-abbrev pub cut_lines_of : Option CutFunction → List Line
-cut_lines_of (Some f) = f.body
-cut_lines_of None = []
-
-abbrev pub cut_is_there : Bool → Option CutFunction → Bool
-cut_is_there kind (Some f) = of_kind kind f.generator
-cut_is_there kind None = false
-
-abbrev pub cut_header : CutFunction → Header
-cut_header f = record { scope = f.scope; params = f.params; generator = f.generator; line = f.line }
-
-abbrev pub cut_functions : Rules → CutScript → Functions (List Line)
-cut_functions rules script = with_lines rules script.scripts script.name (map cut_header script.functions) (λ kind c. cut_is_there kind (slice_get script.functions c)) (λ c. cut_lines_of (slice_get script.functions c))
-
--- the run of cut code over an input
-abbrev pub cut_run : Rules → CutScript → List ℕ → ℕ → Run
-cut_run rules script input = machine_run (cut_functions rules script) input

@@ -1,22 +1,15 @@
 //! Flat code: functions of numbered statements, with labels, over registers.
 #![tactic(auto)]
 
-mod cut;
 mod function;
 mod statement;
 
-ghost use Rattle.flow_code.specs.Laws.{FlatRunsAreMonotone, CutRunsAreMonotone};
+ghost use Rattle.flow_code.specs.Laws.{FlatRunsAreMonotone};
 
-pub use cut::{CutFunction, CutScript};
 pub use function::{FlatFunction, FlatScript};
 pub use statement::{Argument, Line, Operand, Statement};
 
 /// A run of flat code prints no less within a larger bound, and its end stays.
 pub fn flat_runs_are_monotone()
     ensures { FlatRunsAreMonotone }
-{}
-
-/// The same of cut code.
-pub fn cut_runs_are_monotone()
-    ensures { CutRunsAreMonotone }
 {}

@@ -1,8 +1,13 @@
 -- Lowered functions are well formed, and their labels stand.
-use Rattle.std.proofs.Common.{◌<◌, ◌≤◌, List, [], ◌∷◌, sym, subst, arith}
+use Rattle.std.proofs.Common.{ℕ, ◌+◌, ◌^◌, ◌<◌, ◌≤◌, List, [], ◌∷◌, length, sym, subst, arith}
 use Rattle.std.specs.List.{AllByRecursion}
 use Rattle.node_tree.specs.declared.script.NodeCode.{NodeCode}
 use Rattle.flow_code.specs.declared.function.FlatFunction.{FlatFunction}
+use Rattle.flow_code.specs.declared.statement.Line.{Line}
+use Rattle.flow_code.specs.declared.statement.Line.TheVariants.{Label, Do}
+use Rattle.flow_code.specs.declared.statement.Statement.{Statement}
+use Rattle.flow_code.specs.declared.statement.Statement.TheVariants as flat
+use Rattle.flow_code.specs.Contents.{statement_yields, yields}
 use Rattle.flow_code.specs.Labels.{stands, Lead, LabelsThere}
 use Rattle.flow_code.specs.Registers.{registers}
 use Rattle.flow_code.specs.WellFormed.{WellFormed}
@@ -31,3 +36,16 @@ all_there [] [] h = tt
 all_there [] (f ∷ fs) h = absurd h
 all_there (c ∷ cs) [] h = absurd h
 all_there (c ∷ cs) (f ∷ fs) h = (there c f h.0, all_there cs fs h.1)
+
+yields_few : (lines : List Line) → yields lines ≤ length lines
+yields_few [] = omega arith
+yields_few (Label k ∷ lines) = let h = yields_few lines in omega (arith, h)
+yields_few (Do x ∷ lines) = let h = yields_few lines in let one = at_most_one x in omega (arith, h, one)
+  where
+    at_most_one : (x : Statement) → statement_yields x ≤ 1
+    at_most_one (flat.Yield to at a fail) = omega arith
+    at_most_one other = omega arith
+
+-- labels and lines that both fit in memory leave room for pauses
+pub has_room : (labels : ℕ) (lines : List Line) → labels < 2 ^ 63 → length lines < 2 ^ 63 → labels + yields lines + 1 < 2 ^ 64
+has_room labels lines a b = let h = yields_few lines in omega (arith, a, b, h)

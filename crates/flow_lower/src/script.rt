@@ -6,7 +6,7 @@ ghost use Rattle.flow_code.specs.declared.statement.Line.{Line as Flat};
 ghost use Rattle.flow_code.specs.declared.statement.Statement.TheVariants as flat;
 ghost use Rattle.std.specs.List.{AllByRecursion};
 ghost use Rattle.flow_code.specs.Labels.{LabelsThere};
-ghost use Rattle.flow_code.specs.WellFormed.{WellFormed};
+ghost use Rattle.flow_code.specs.WellFormed.{WellFormed, HasRoom};
 ghost use Rattle.flow_lower.specs.Correct.{Lowers, LowersCode, DoesTheSame};
 ghost use Rattle.flow_lower.specs.Kept.{KeepsEach};
 ghost use Rattle.flow_lower.specs.Lower.{copies, fail_lines};
@@ -28,6 +28,7 @@ pub fn lower(alloc: Global, script: &NodeScript) -> Result<FlatScript, AllocErro
     ensures same { IfOk result (λ flat. DoesTheSame script.now flat) }
     ensures well_formed { IfOk result (λ flat. AllByRecursion WellFormed flat.functions) }
     ensures there { IfOk result (λ flat. AllByRecursion (λ f. LabelsThere f.body) flat.functions) }
+    ensures room { IfOk result (λ flat. AllByRecursion HasRoom flat.functions) }
     ensures keeps { IfOk result (λ flat. KeepsEach script.now.codes flat.functions) }
 {
     let mut functions = Vec::new(alloc);
@@ -43,7 +44,8 @@ pub fn lower(alloc: Global, script: &NodeScript) -> Result<FlatScript, AllocErro
 
 /// The function of a code.
 fn lower_code(alloc: Global, code: &NodeCode) -> Result<FlatFunction, AllocError>
-    ensures { IfOk result (λ f. LowersCode code.now f) }
+    ensures lowers { IfOk result (λ f. LowersCode code.now f) }
+    ensures room { IfOk result (λ f. HasRoom f) }
 {
     let mut out = Vec::new(alloc);
     put_parameters(&mut out, code.params.len() as u64)?;

@@ -1,1 +1,10 @@
+pub mod Places
+pub mod Slots
+pub mod Machines
+mod AllSaved
+pub mod Paths
+mod Example
 mod Copied
+pub mod Emitted
+mod Kept
+mod Texts

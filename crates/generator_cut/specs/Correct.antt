@@ -1,34 +1,48 @@
--- What cut code keeps of flat code.
-use Rattle.std.specs.Prelude.{ℕ, List, [], ◌∷◌, ◌≡◌, map, Bool}
+-- When a program does what flat code does, and what it keeps of it.
+use Rattle.std.specs.Prelude.{ℕ, ◌+◌, List, [], ◌∷◌, ◌≡◌, length, map, Bool}
+use Rattle.std.specs.List.{AllByRecursion}
 use Rattle.nu_run.specs.Runs.{IsDefined, Same}
-use Rattle.op_forms.specs.declared.constant.Const.{Const}
-use Rattle.op_forms.specs.declared.op.Op.{Op}
 use Rattle.op_forms.specs.Rules.{Rules}
-use Rattle.flow_code.specs.declared.cut.CutFunction.{CutFunction}
-use Rattle.flow_code.specs.declared.cut.CutScript.{CutScript}
+use Rattle.op_forms.specs.declared.op.Op.{Op}
 use Rattle.flow_code.specs.declared.function.FlatFunction.{FlatFunction}
 use Rattle.flow_code.specs.declared.function.FlatScript.{FlatScript}
-use Rattle.flow_code.specs.declared.statement.Argument.{Argument}
-use Rattle.flow_code.specs.Contents.{operations, constants}
-use Rattle.flow_code.specs.Run.{header, cut_header, flat_run, cut_run}
+use Rattle.flow_code.specs.Contents as flat
+use Rattle.flow_code.specs.Run.{header, flat_run}
+use Rattle.flow_code.specs.WellFormed.{WellFormed}
+use Rattle.c_meaning.specs.declared.program.Argument.{Argument}
+use Rattle.c_meaning.specs.declared.program.CProgram.{CProgram}
+use Rattle.c_meaning.specs.declared.program.Function.{Function}
+use Rattle.c_meaning.specs.declared.program.Operand.{Operand}
+use Rattle.c_meaning.specs.Run.{header_of, c_run}
+use Rattle.generator_cut.specs.Cut.{constant_of, argument_of, program_of, all_saved}
+use Rattle.generator_cut.specs.Contents as c
+
+-- under all rules of operations and over every input, a program does what flat code does, where that never ends Undefined
+abbrev pub DoesTheSame : FlatScript → CProgram → Type 0
+DoesTheSame script program = (rules : Rules) (input : List ℕ) → IsDefined (flat_run rules script input) → Same (flat_run rules script input) (c_run rules program input)
+
+-- the program of well-formed flat code that saves all registers at each pause does what the flat code does
+abbrev pub ProgramsDoTheSame : Type 0
+ProgramsDoTheSame = (script : FlatScript) → AllByRecursion WellFormed script.functions → DoesTheSame script (program_of all_saved script)
 
 -- the same file name and number of script functions, and one function for each, with its name, parameters, kind and first
 -- line
-pub record HasHeads (flat : FlatScript) (cut : CutScript) : Type 0 where
-  pub name : cut.name ≡ flat.name
-  pub scripts : cut.scripts ≡ flat.scripts
-  pub headers : map cut_header cut.functions ≡ map header flat.functions
+pub record HasHeads (script : FlatScript) (program : CProgram) : Type 0 where
+  pub name : program.name ≡ script.name
+  pub scripts : program.scripts ≡ script.scripts
+  pub all : program.scripts + program.builtins ≡ length script.functions
+  pub headers : map header_of program.functions ≡ map header script.functions
 
--- by every test, as many operations, with their arguments and names, stand in both, and as many constants
-pub record Keeps (f : FlatFunction) (g : CutFunction) : Type 0 where
-  pub operations : (test : Op → List Argument → Bool) → operations test g.body ≡ operations test f.body
-  pub constants : (test : Const → Bool) → constants test g.body ≡ constants test f.body
+-- by every test, as many operations, with their arguments and names, stand in both, and as many constants; as many pauses as yield
+-- statements; and as many registers
+pub record Keeps (f : FlatFunction) (g : Function) : Type 0 where
+  pub registers : g.registers ≡ f.registers
+  pub operations : (test : Op → List Argument → Bool) → c.operations test g.body ≡ flat.operations (λ o args. test o (map argument_of args)) f.body
+  pub constants : (test : Operand → Bool) → c.constants test g.body ≡ flat.constants (λ x. test (constant_of x)) f.body
+  pub pauses : c.pauses g.body ≡ flat.yields f.body
 
-abbrev pub KeepsEach : List FlatFunction → List CutFunction → Type 0
+-- each function what that of the same number has
+abbrev pub KeepsEach : List FlatFunction → List Function → Type 0
 KeepsEach [] [] = Unit {0}
 KeepsEach (f ∷ fs) (g ∷ gs) = Keeps f g × KeepsEach fs gs
 KeepsEach fs gs = ⊥
-
--- under all rules of operations and over every input, cut code does what flat code does, where that never ends Undefined
-abbrev pub DoesTheSame : FlatScript → CutScript → Type 0
-DoesTheSame flat cut = (rules : Rules) (input : List ℕ) → IsDefined (flat_run rules flat input) → Same (flat_run rules flat input) (cut_run rules cut input)

@@ -1,68 +1,92 @@
-//! The cut code of a script.
+//! The C program of flat code.
 
-ghost use Rattle.std.specs.Prelude.{◌≡◌, IfOk, map};
+ghost use Rattle.std.specs.Prelude.{◌≡◌, ◌≤◌, IfOk, length, map};
 ghost use Rattle.std.specs.List.{AllByRecursion};
-ghost use Rattle.flow_code.specs.WellFormed.{WellFormed, CutWellFormed};
-ghost use Rattle.flow_code.specs.Contents.{yields};
-ghost use Rattle.generator_cut.specs.Copies.{copied};
-ghost use Rattle.generator_cut.specs.Correct.{HasHeads, KeepsEach, DoesTheSame};
+ghost use Rattle.flow_code.specs.Run.{header as flat_header};
+ghost use Rattle.flow_code.specs.WellFormed.{WellFormed, HasRoom};
+ghost use Rattle.c_meaning.specs.Written.{IsProgram};
+ghost use Rattle.generator_cut.specs.Cut.{all_saved, function_of, program_of};
+ghost use Rattle.generator_cut.specs.Correct.{DoesTheSame, HasHeads, KeepsEach};
+ghost use Rattle.generator_cut.specs.Fits.{FunctionFits, ScriptFits};
+ghost use Rattle.generator_cut.specs.Writable.{IsCounted, IsHeading, refused};
 
-use flow_code::{CutFunction, CutScript, FlatFunction, FlatScript};
+use crate::copies::{header, text};
+use crate::pauses::{numbers, put_beginning};
+use crate::statements::put_lines;
+use c_meaning::{CProgram, Function};
+use flow_code::{FlatFunction, FlatScript};
 use sqlite_items::Items;
 use std::alloc::{AllocError, Global};
 
-/// The cut code of a script, which does what the script's flat code does.
-///
-/// Its functions have the same names, parameters, kinds and first lines. In each no label stands twice, and each register is
-/// declared. Its operations, with their names, and its constants are those of the flat code.
-pub fn cut(alloc: Global, script: FlatScript) -> Result<CutScript, AllocError>
-    requires well_formed { AllByRecursion WellFormed script.functions }
-    requires no_yields { AllByRecursion (λ f. yields f.body ≡ 0) script.functions }
-    ensures heads { IfOk result (λ cut. HasHeads script cut) }
-    ensures same { IfOk result (λ cut. DoesTheSame script cut) }
-    ensures well_formed { IfOk result (λ cut. AllByRecursion CutWellFormed cut.functions) }
-    ensures no_yields { IfOk result (λ cut. AllByRecursion (λ f. yields f.body ≡ 0) cut.functions) }
-    ensures keeps { IfOk result (λ cut. KeepsEach script.functions cut.functions) }
+// A function.
+fn function(alloc: Global, function: &FlatFunction) -> Result<Function, AllocError>
+    requires { HasRoom function.now }
+    ensures is { IfOk result (λ f. f ≡ function_of (all_saved function.now) function.now) }
+    ensures fits { IfOk result (λ f. FunctionFits function.now) }
 {
-    let FlatScript {
-        name,
-        scripts,
-        functions,
-    } = script;
-    let functions = cut_functions(alloc, functions)?;
-    Ok(CutScript {
-        name,
-        scripts,
+    let (labels, registers) = (function.labels, function.registers);
+    let saved = numbers(alloc, registers, 0)?;
+    let body = function.body.as_slice();
+    let mut out = Vec::new(alloc);
+    if function.generator {
+        put_beginning(alloc, &mut out, labels, &saved, body)?;
+    }
+    put_lines(alloc, &mut out, labels + 1, &saved, body)?;
+    Ok(Function {
+        header: header(alloc, function)?,
+        slots: registers,
+        registers,
+        body: Items::from_vec(out),
+    })
+}
+
+// All functions.
+fn functions(alloc: Global, functions: &[FlatFunction]) -> Result<Items<Function>, AllocError>
+    requires { AllByRecursion HasRoom functions.now }
+    ensures is { IfOk result (λ made. made ≡ map (λ f. function_of (all_saved f) f) functions.now) }
+    ensures fits { IfOk result (λ made. AllByRecursion FunctionFits functions.now) }
+{
+    let mut made = Items::new(alloc);
+    for one in functions {
+        made.push(function(alloc, one)?)?;
+    }
+    Ok(made)
+}
+
+// The program of a script.
+fn program(alloc: Global, script: &FlatScript) -> Result<CProgram, AllocError>
+    requires within { script.now.scripts ≤ length script.now.functions }
+    requires few { length script.now.functions ≤ 65535 }
+    requires room { AllByRecursion HasRoom script.now.functions }
+    ensures is { IfOk result (λ program. program ≡ program_of all_saved script.now) }
+    ensures fits { IfOk result (λ program. ScriptFits script.now) }
+{
+    let functions = functions(alloc, script.functions.as_slice())?;
+    let builtins = script.functions.len() as u32 - script.scripts;
+    Ok(CProgram {
+        name: text(&script.name)?,
+        scripts: script.scripts,
+        builtins,
         functions,
     })
 }
 
-fn cut_functions(
-    alloc: Global,
-    functions: Items<FlatFunction>,
-) -> Result<Items<CutFunction>, AllocError>
-    ensures { IfOk result (λ done. done ≡ map copied functions) }
+/// The program of a script, which does what the script's flat code does: where a generator pauses, it keeps all registers.
+///
+/// It has a text. Its functions have the names, parameters, kinds and first lines of the flat code's, their operations with their
+/// names, their constants and as many pauses as yield statements.
+pub fn cut(alloc: Global, script: &FlatScript) -> Result<CProgram, AllocError>
+    requires counted { IsCounted script.now }
+    requires headings { AllByRecursion IsHeading (map flat_header script.now.functions) }
+    requires taken { AllByRecursion (λ f. refused f.body ≡ 0) script.now.functions }
+    requires well_formed { AllByRecursion WellFormed script.now.functions }
+    requires room { AllByRecursion HasRoom script.now.functions }
+    ensures is { IfOk result (λ program. program ≡ program_of all_saved script.now) }
+    ensures same { IfOk result (λ program. DoesTheSame script.now program) }
+    ensures program { IfOk result (λ program. IsProgram program) }
+    ensures heads { IfOk result (λ program. HasHeads script.now program) }
+    ensures keeps { IfOk result (λ program. KeepsEach script.now.functions program.functions) }
 {
-    let mut left = functions;
-    let mut done = Vec::new(alloc);
-    while let Some(function) = left.pop() {
-        done.push(cut_function(function))?;
-    }
-    done.reverse();
-    Ok(Items::from_vec(done))
-}
-
-fn cut_function(function: FlatFunction) -> CutFunction
-    ensures { result ≡ copied function }
-{
-    CutFunction {
-        scope: function.scope,
-        params: function.params,
-        generator: function.generator,
-        line: function.line,
-        slots: 0,
-        labels: function.labels,
-        registers: function.registers,
-        body: function.body,
-    }
+    let program = program(alloc, script)?;
+    Ok(program)
 }

@@ -1,6 +1,16 @@
-//! Cut code: where a generator pauses, it keeps slots. No function has a yield statement yet, so functions are copied.
+//! The C program of flat code, with its pauses as resume numbers and slots.
 #![tactic(auto)]
 
+mod copies;
 mod cutting;
+mod pauses;
+mod statements;
+
+ghost use Rattle.generator_cut.specs.Correct.{ProgramsDoTheSame};
 
 pub use cutting::cut;
+
+/// The program of flat code does what the flat code does.
+pub fn programs_do_the_same()
+    ensures { ProgramsDoTheSame }
+{}

@@ -2,22 +2,9 @@
 -- temporaries, from t on: the value that is returned, or the exception; whether an end other than a value is pending; whether it is an
 -- exception; whether it is a return; and whether it leaves two loops.
 use Rattle.std.specs.Prelude.{ℕ, zero, suc, ◌+◌, Bool, true, false, Option, Some, None}
-use Rattle.op_forms.specs.declared.constant.Const.TheVariants as const
 use Rattle.node_tree.specs.declared.node.Operand.{Operand}
-use Rattle.node_tree.specs.declared.node.Operand.TheVariants as operand
+use Rattle.node_tree.specs.Blocks.{alone, puts, flag}
 use Rattle.node_tree.specs.Blocks as tree
-
-abbrev pub alone : tree.Form → tree.Block
-alone x = tree.Follow x tree.Stop
-
--- a temporary gets what an operand holds
-abbrev pub puts : ℕ → Operand → tree.Form
-puts to (operand.Temp t) = tree.Copy to t
-puts to (operand.Const c) = tree.Constant to c
-
--- a temporary gets a truth value
-abbrev pub flag : ℕ → Bool → tree.Form
-flag to b = tree.Constant to (const.Bool b)
 
 -- a return is pending; this loop is left, so many of the block, and the nearest around
 abbrev pub return_flags : ℕ → ℕ → tree.Block

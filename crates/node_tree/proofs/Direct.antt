@@ -1,9 +1,10 @@
 -- No step of a place in a block leads through an item.
-use Rattle.std.proofs.Common.{◌≡◌, ℕ, List, [], ◌∷◌, ◌++◌, refl, ap}
+use Rattle.std.proofs.Common.{◌≡◌, ℕ, ◌+◌, List, [], ◌∷◌, ◌++◌, refl, ap, arith}
 use Rattle.nu_rows.specs.Rows.{End, Next, Leave, Raised, Return, Stopped, Undefined}
 use Rattle.nu_rows.proofs.Direct.{Direct, act_direct, yield_direct, sub_direct, loop_direct, then_direct, next_direct, raised_direct, choose_direct, line_direct}
 use Rattle.node_tree.specs.declared.node.Node.{Node}
 use Rattle.node_tree.specs.Blocks as tree
+use Rattle.node_tree.specs.Contents.{form_total, total}
 use Rattle.node_tree.specs.Nodes.{L, stored, form_row, block_row}
 use Rattle.node_tree.specs.Tree.{form, block}
 
@@ -40,3 +41,15 @@ mutual
 pub block_append : (xs ys : List Node) → block (xs ++ ys) ≡ tree.append (block xs) (block ys)
 block_append [] ys = refl
 block_append (x ∷ xs) ys = ap (λ b. tree.Follow (form x) b) (block_append xs ys)
+
+pub append_stop : (b : tree.Block) → tree.append b tree.Stop ≡ b
+append_stop tree.Stop = refl
+append_stop (tree.Follow x r) = ap (λ b. tree.Follow x b) (append_stop r)
+
+-- a sum over both
+pub total_append : (count : tree.Form → ℕ) (b c : tree.Block) → total count (tree.append b c) ≡ total count b + total count c
+total_append count tree.Stop c = omega arith
+total_append count (tree.Follow x r) c =
+    let e : total count (tree.append r c) ≡ total count r + total count c = total_append count r c in
+    let goal : form_total count x + total count (tree.append r c) ≡ (form_total count x + total count r) + total count c = omega arith in
+    goal

@@ -1,9 +1,12 @@
 -- Blocks of primitive statements, as the meaning reads them: a block is the end, or a statement and the rest.
-use Rattle.std.specs.Prelude.{ℕ, List}
+use Rattle.std.specs.Prelude.{ℕ, List, Bool}
 use Rattle.op_forms.specs.declared.constant.Const.{Const}
+use Rattle.op_forms.specs.declared.constant.Const.TheVariants as const
 use Rattle.op_forms.specs.declared.op.Op.{Op}
 use Rattle.node_tree.specs.declared.node.Argument.{Argument}
+use Rattle.node_tree.specs.declared.node.Argument.TheVariants as argument
 use Rattle.node_tree.specs.declared.node.Operand.{Operand}
+use Rattle.node_tree.specs.declared.node.Operand.TheVariants as operand
 
 mutual
   pub data Form : Type 0 where
@@ -28,3 +31,20 @@ mutual
 abbrev pub append : Block → Block → Block
 append Stop q = q
 append (Follow x r) q = Follow x (append r q)
+
+-- a block of one statement
+abbrev pub alone : Form → Block
+alone x = Follow x Stop
+
+-- a temporary gets what an operand holds
+abbrev pub puts : ℕ → Operand → Form
+puts to (operand.Temp t) = Copy to t
+puts to (operand.Const c) = Constant to c
+
+-- a temporary gets a truth value
+abbrev pub flag : ℕ → Bool → Form
+flag to b = Constant to (const.Bool b)
+
+-- what a temporary holds is an argument
+abbrev pub of_temp : ℕ → Argument
+of_temp t = argument.Value (operand.Temp t)

@@ -4,6 +4,7 @@ use Rattle.std.specs.Prelude.{ℕ, ◌+◌, ◌-◌, List, [], ◌∷◌, Option
 use Rattle.nu_run.specs.declared.StopKind.{StopKind}
 use Rattle.nu_run.specs.declared.StopKind.TheVariants as stop
 use Rattle.nu_value.specs.declared.header.Header.{Header}
+use Rattle.nu_value.specs.declared.natives.Native.TheVariants as native
 use Rattle.nu_value.specs.declared.object.GenState.{GenState}
 use Rattle.nu_value.specs.declared.object.GenState.TheVariants as gen
 use Rattle.nu_value.specs.declared.object.Object.{Object}
@@ -20,24 +21,24 @@ use Rattle.nu_rows.specs.Rows.{End, Next, Leave, Raised, Return, Stopped, Undefi
 use Rattle.op_forms.specs.Answers.{Answer}
 use Rattle.op_forms.specs.Rules.{Rules}
 use Rattle.nu_calls.specs.Surroundings.{Scene, with_world, with_heap, with_input, with_frames}
-use Rattle.nu_calls.specs.Exceptions.{Thrown, exception_made, with_entry, is_kind}
+use Rattle.nu_calls.specs.Exceptions.{Thrown, number_of, exception_made, with_entry, is_kind}
 use Rattle.nu_calls.specs.Lines.{NextLine, ALine, NoLine, BadLine, line_of}
 
--- the numbers of classes that are spoken of here
+-- the classes that are spoken of here
 abbrev pub generator_exit : ℕ
-generator_exit = 21
+generator_exit = number_of native.GeneratorExit
 
 abbrev pub runtime_error : ℕ
-runtime_error = 32
+runtime_error = number_of native.RuntimeError
 
 abbrev pub stop_iteration : ℕ
-stop_iteration = 34
+stop_iteration = number_of native.StopIteration
 
 abbrev pub type_error : ℕ
-type_error = 35
+type_error = number_of native.TypeError
 
 abbrev pub value_error : ℕ
-value_error = 36
+value_error = number_of native.ValueError
 
 -- how an operation ends for its code: with a value, an exception or a stop, or nothing is said
 pub data Result : Type 0 where

@@ -1,9 +1,20 @@
 -- Exceptions: how they are made, their entries and classes (reference, section 8.4; library reference, exceptions).
-use Rattle.std.specs.Prelude.{ℕ, zero, suc, List, [], ◌∷◌, ◌++◌, Option, Some, None, Bool, true, false, ◌||◌, nat_eq, length, slice_get, slice_set}
+use Rattle.std.specs.Prelude.{ℕ, zero, suc, List, [], ◌∷◌, ◌++◌, Option, Some, None, Bool, true, false, ◌||◌, if◌then◌else◌, nat_eq, length, slice_get, slice_set}
+use Rattle.std.specs.Str.{bytes_eq}
 use Rattle.nu_value.specs.declared.entries.Entry.{Entry}
+use Rattle.nu_value.specs.declared.natives.Native.{Native}
 use Rattle.nu_value.specs.declared.object.Object.{Object}
 use Rattle.nu_value.specs.declared.object.Object.TheVariants as object
 use Rattle.nu_value.specs.declared.value.Value.{Value}
+use Rattle.nu_value.specs.Natives.{name_of, natives}
+
+-- the number of a class that no script makes is its place among them
+abbrev pub place_among : List ℕ → List Native → ℕ
+place_among name [] = 0
+place_among name (n ∷ ns) = if bytes_eq (name_of n) name then 0 else suc (place_among name ns)
+
+abbrev pub number_of : Native → ℕ
+number_of n = place_among (name_of n) natives
 
 -- an exception, and the objects with it
 pub record Thrown : Type 0 where

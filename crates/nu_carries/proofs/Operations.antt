@@ -194,8 +194,8 @@ module _ (z : Setting) (tabs : Tables) (C : S → T → Type 0) (outer : (s : S)
 
     entry_as : (b : Begun) → Meets (entry (source z) s b) (entry (target z) t b)
     entry_as (Over o r) = record { places = λ p s q t. ⊥; ends = λ e s e' t. ⊥; entries = record { outs = refl; ends = result_as s t r x } }
-    entry_as (Calls code given cells after) = calls_as code after _ _ (agree.begins code given cells)
-    entry_as (Starts g code given cells) = starts_as g code _ _ (agree.begins code given cells)
+    entry_as (Calls code given cells after) = calls_as code after _ _ (agree.begins false code given cells)
+    entry_as (Starts g code given cells) = starts_as g code _ _ (agree.begins true code given cells)
     entry_as (Wakes g how closing) = wakes_as g how closing _ _ (both.around.kept g)
 
   module _ (L : ℕ) (agree : Agree z tabs L) where

@@ -126,7 +126,7 @@ module _ (z : Setting) where
     -- the text of an exception
     entry_reported : (s : S) (t : T) (b : Begun) (x : Out s t) → Meets z tabs Out (λ s t x. x) callers L agree s t x (report_entry (source z) s b) (report_entry (target z) t b)
     entry_reported s t (Over out r) x = record { places = λ p s q t. ⊥; ends = λ e s e' t. ⊥; entries = record { outs = refl; ends = result_as z tabs Out (λ s t x. x) callers s t r x } }
-    entry_reported s t (Calls code given cells after) x = calls_as z tabs Out (λ s t x. x) callers L agree s t x code after _ _ (agree.begins code given cells)
+    entry_reported s t (Calls code given cells after) x = calls_as z tabs Out (λ s t x. x) callers L agree s t x code after _ _ (agree.begins false code given cells)
     entry_reported s t (Starts g code given cells) x = nothing_as z tabs Out (λ s t x. x) callers L agree s t x
     entry_reported s t (Wakes g how closing) x = nothing_as z tabs Out (λ s t x. x) callers L agree s t x
 
@@ -228,7 +228,7 @@ module _ (z : Setting) where
       module_as : (file : List ℕ) (code : ℕ) (r : python.R) (d : nodes.R) → Main Out MainEnds r d → Main Out MainEnds (module_row (bodies.program z.rules z.script.scripts z.codes) file code r) (module_row (node_run.program z.rules z.script) file code d)
       module_as file code r d next = main_then Out (BodyEnds z tabs) MainEnds _ _ _ _
           (main_then Out (Opened code) (BodyEnds z tabs) _ _ _ _
-          (main_act Out (Opened code) _ _ (λ s t x. opened code _ _ s t (c.begins code [] []) x))
+          (main_act Out (Opened code) _ _ (λ s t x. opened code _ _ s t (c.begins false code [] []) x))
           (body_as code))
           (λ e e'. main_less (λ s t. BodyEnds z tabs (given_back e) s (given_back e') t) _ MainEnds _ _ (λ s t x. given_as z tabs e s e' t x) (ended_as file r d next (given_back e) (given_back e')))
 

@@ -9,6 +9,7 @@ use Rattle.nu_calls.specs.Calls.{yields}
 use Rattle.node_tree.specs.declared.node.Argument.TheVariants as argument
 use Rattle.node_tree.specs.declared.node.Operand.{Operand}
 use Rattle.node_tree.specs.declared.node.Operand.TheVariants as operand
+use Rattle.node_tree.specs.Blocks.{alone}
 use Rattle.node_tree.specs.Blocks as tree
 use Rattle.node_tree.specs.Nodes as nodes
 use Rattle.py_meaning.specs.Syntax as syntax
@@ -16,7 +17,6 @@ use Rattle.py_meaning.specs.Frames as python
 use Rattle.py_meaning.specs.Expressions.{each}
 use Rattle.nu_carries.specs.Frames.{Homes, HaveRoom, local_at, behind, Holds, Facts, Fits, IsWithin, Outside}
 use Rattle.nu_carries.specs.Carries.{Setting, source, target, Correspond, EndsAs, Carried, CarriesExpression, Carrier, CarriesAll, joined}
-use Rattle.nu_carries.specs.Laws.{alone}
 use Rattle.nu_carries.proofs.Facts.{Off, outside_off, outside_less, within_below, local_below, refit, forget}
 use Rattle.nu_carries.proofs.Sequence.{weaken, lessen, more_leaves, seq_carried, one_carried, gives_carried, reads_by, uses_by}
 use Rattle.nu_carries.proofs.Operations.{operate_carried, storing_by, yields_by}

@@ -10,6 +10,7 @@ use Rattle.nu_calls.specs.Calls.{state_of}
 use Rattle.node_tree.specs.declared.node.Argument.TheVariants as argument
 use Rattle.node_tree.specs.declared.node.Operand.{Operand}
 use Rattle.node_tree.specs.declared.node.Operand.TheVariants as operand
+use Rattle.node_tree.specs.Blocks.{alone}
 use Rattle.node_tree.specs.Blocks as tree
 use Rattle.node_tree.specs.Nodes as nodes
 use Rattle.py_meaning.specs.Syntax as syntax
@@ -20,10 +21,10 @@ use Rattle.nu_carries.specs.Frames.{Homes, HaveRoom, local_at, behind, Holds, Fa
 use Rattle.nu_carries.specs.Carries.{Setting, source, target, S, T, Tables, Correspond, EndsAs, CarriedBy, CarriedTo, Carried, Handles, CarriesExpression, CarriesStatement, CarriesBlock, CarriesTarget}
 use Rattle.nu_carries.proofs.Homes.{local_bound}
 use Rattle.nu_carries.specs.Turns.{TurnedEnds}
-use Rattle.nu_carries.specs.Laws.{alone, if_block, turn_block, while_block, Within}
+use Rattle.nu_carries.specs.Laws.{if_block, turn_block, while_block, Within}
 use Rattle.nu_carries.proofs.Facts.{Off, outside_off, outside_home, local_below, outside_less, refit}
 use Rattle.nu_carries.proofs.Carry.{AllEnds, IsOver, none_by, act_by, then_by, append_by, loop_by}
-use Rattle.nu_carries.proofs.Sequence.{Passes, Unvalued, strengthen, passes_to, seq_carried, seq_to, then_to, unvalued, one_by}
+use Rattle.nu_carries.proofs.Sequence.{Passes, Unvalued, strengthen, passes_to, seq_carried, seq_to, then_to, unvalued, one_by, gives_carried}
 use Rattle.nu_carries.proofs.Operations.{operate_carried}
 use Rattle.nu_carries.proofs.Control.{EndsLoop, once_by, branch_by, flagged_by, return_by, writes_first}
 use Rattle.nu_carries.proofs.Small.{within_off}
@@ -231,6 +232,22 @@ while_carried h low m₃ tl th bl bh ol oh line caught test body other tb bb ob 
     handles_more None (Some y) fs x = x
     handles_more (Some t) None fs x = x
     handles_more (Some t) (Some y) fs x = (λ c g q. x c g q.1)
+
+-- no statement
+pub done_carried : (h : Homes) (low high : ℕ) (caught : Option ℕ) → behind h ≤ low → low ≤ high → CarriesBlock h low high caught syntax.Done tree.Stop
+done_carried h low high caught st le = record {
+  starts = st;
+  grows = le;
+  carries = λ z fs handled off hd. gives_carried z h 2 (λ v. fs) fs value.None (λ c g x. x);
+}
+
+-- `pass`
+pub pass_carried : (h : Homes) (low high : ℕ) (caught : Option ℕ) → behind h ≤ low → low ≤ high → CarriesStatement h low high caught syntax.Pass tree.Stop
+pass_carried h low high caught st le = record {
+  starts = st;
+  grows = le;
+  carries = λ z fs handled off hd. gives_carried z h 2 (λ v. fs) fs value.None (λ c g x. x);
+}
 
 -- Statements that end at once, and a local variable that is bound
 

@@ -1,6 +1,6 @@
 -- When a block of primitive statements carries a construct of a script: from corresponding states, and from corresponding places, the
 -- two do the same.
-use Rattle.std.specs.Prelude.{◌≡◌, ℕ, ◌<◌, ◌≤◌, List, [], ◌∷◌, map, Option, Some, None, slice_get}
+use Rattle.std.specs.Prelude.{◌≡◌, ℕ, ◌<◌, ◌≤◌, Bool, List, [], ◌∷◌, map, Option, Some, None, slice_get}
 use Rattle.nu_value.specs.declared.value.Value.{Value}
 use Rattle.nu_value.specs.declared.value.Value.TheVariants as value
 use Rattle.nu_rows.specs.Rows.{Next, Leave, Raised, Return, Stopped, Undefined, Step, Part}
@@ -109,7 +109,7 @@ BegunAs h f g = ⊥
 -- the codes agree: each begins in both alike, and within each bound up to L the bodies of the same code correspond, from the beginning
 -- and from corresponding places
 pub record Agree (z : Setting) (tabs : Tables) (L : ℕ) : Type 0 where
-  pub begins : (code : ℕ) (given cells : List Value) → BegunAs (z.homes code) ((source z).frame code given cells) ((target z).frame code given cells)
+  pub begins : (kind : Bool) (code : ℕ) (given cells : List Value) → BegunAs (z.homes code) ((source z).frame kind code given cells) ((target z).frame kind code given cells)
   pub bodies : (code : ℕ) → Sim (rows z) (columns z) L (At z (z.homes code) tabs (tabs code)) (Correspond z (begun (z.homes code)) tabs []) (BodyEnds z tabs) (Part (python.OfCode code)) (Part (nodes.OfCode code))
 
 -- two rows correspond by some table of places, from such states and with such ends, whatever the other codes, within each bound up to
@@ -196,5 +196,5 @@ CarriesCode z code =
 -- each code begins in both alike and is carried, and both say the same of it before it runs
 pub record CarriesScript (z : Setting) : Type 0 where
   pub headers : map (λ code. code.header) z.codes ≡ map node_run.header z.script.codes
-  pub begins : (code : ℕ) (given cells : List Value) → BegunAs (z.homes code) ((source z).frame code given cells) ((target z).frame code given cells)
+  pub begins : (kind : Bool) (code : ℕ) (given cells : List Value) → BegunAs (z.homes code) ((source z).frame kind code given cells) ((target z).frame kind code given cells)
   pub codes : (code : ℕ) → CarriesCode z code

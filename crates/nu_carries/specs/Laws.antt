@@ -9,6 +9,7 @@ use Rattle.op_forms.specs.Constants.{value_of}
 use Rattle.node_tree.specs.declared.node.Argument.TheVariants as argument
 use Rattle.node_tree.specs.declared.node.Operand.{Operand}
 use Rattle.node_tree.specs.declared.node.Operand.TheVariants as operand
+use Rattle.node_tree.specs.Blocks.{alone}
 use Rattle.node_tree.specs.Blocks as tree
 use Rattle.node_tree.specs.Run.{node_run}
 use Rattle.node_tree.specs.Tree.{code_block}
@@ -20,9 +21,6 @@ use Rattle.nu_carries.specs.Carries.{Setting, Carrier, CarriesExpression, Carrie
 -- a script whose codes are carried has the run of the nodes, over every input
 abbrev pub CarriedScriptsAreTheSame : Type 0
 CarriedScriptsAreTheSame = (z : Setting) → CarriesScript z → (input : List ℕ) → Same (codes_run z.rules z.script.name z.script.scripts z.codes input) (node_run z.rules z.script input)
-
-abbrev pub alone : tree.Form → tree.Block
-alone x = tree.Follow x tree.Stop
 
 -- a branch, whose truth value goes to the temporary t
 abbrev pub if_block : ℕ → ℕ → tree.Block → Operand → tree.Block → tree.Block → tree.Block
@@ -55,6 +53,9 @@ Within low high l r = (low ≤ l) × (r ≤ high)
 
 -- statements and blocks
 pub record CarriesStatements : Type 0 where
+  -- no statement
+  pub done : (h : Homes) (low high : ℕ) (caught : Option ℕ) → behind h ≤ low → low ≤ high → CarriesBlock h low high caught syntax.Done tree.Stop
+  pub pass : (h : Homes) (low high : ℕ) (caught : Option ℕ) → behind h ≤ low → low ≤ high → CarriesStatement h low high caught syntax.Pass tree.Stop
   pub evaluate : (h : Homes) (low high : ℕ) (caught : Option ℕ) (x : syntax.Expression) (b : tree.Block) (o : Operand) → CarriesExpression h low high x b o → CarriesStatement h low high caught (syntax.Evaluate x) (tree.append b tree.Stop)
   pub then : (h : Homes) (low mid high : ℕ) (caught : Option ℕ) (s : syntax.Statement) (rest : syntax.Block) (b c : tree.Block) → CarriesStatement h low mid caught s b → CarriesBlock h mid high caught rest c → CarriesBlock h low high caught (syntax.Then s rest) (tree.append b c)
   -- the parts may write any temporaries in front of those that are drawn for the statement, apart or not

@@ -2,6 +2,8 @@
 //!
 //! A block carries a construct where, from corresponding states and from corresponding places, the two print the same and end
 //! correspondingly, in both directions (specs/Carries). What blocks are made of is proved to carry by combinator (proofs/).
+//!
+//! The laws serve the reformulation of scripts: where the blocks that it builds are these, their runs are those of the script.
 #![tactic(auto)]
 
 ghost use Rattle.nu_carries.specs.Laws.{CarriedScriptsAreTheSame, CarriesPlainCodes, CarriesSmall, CarriesStatements};

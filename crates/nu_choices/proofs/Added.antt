@@ -7,6 +7,7 @@ use Rattle.nu_calls.specs.Calls.{operate}
 use Rattle.node_tree.specs.declared.node.Argument.{Argument}
 use Rattle.node_tree.specs.declared.node.Argument.TheVariants as argument
 use Rattle.node_tree.specs.declared.node.Operand.TheVariants as operand
+use Rattle.node_tree.specs.Blocks.{of_temp}
 use Rattle.node_tree.specs.Blocks as tree
 use Rattle.node_tree.specs.Nodes as nodes
 use Rattle.py_meaning.specs.Syntax as syntax
@@ -17,7 +18,6 @@ use Rattle.nu_carries.specs.Carries.{Setting, source, target, CarriedTo, Carrier
 use Rattle.nu_carries.proofs.Facts.{Off}
 use Rattle.nu_carries.proofs.Carry.{AllEnds}
 use Rattle.nu_carries.proofs.Sequence.{Passes, strengthen}
-use Rattle.nu_homes.specs.Names.{of_temp}
 use Rattle.nu_homes.proofs.Functions.{Extends}
 use Rattle.nu_guards.proofs.Steps.{value_then, do_then}
 use Rattle.nu_choices.specs.Parts.{CarriesPart}

@@ -11,6 +11,7 @@ use Rattle.node_tree.specs.declared.node.Argument.{Argument}
 use Rattle.node_tree.specs.declared.node.Argument.TheVariants as argument
 use Rattle.node_tree.specs.declared.node.Operand.{Operand}
 use Rattle.node_tree.specs.declared.node.Operand.TheVariants as operand
+use Rattle.node_tree.specs.Blocks.{of_temp}
 use Rattle.node_tree.specs.Blocks as tree
 use Rattle.node_tree.specs.Nodes as nodes
 use Rattle.py_meaning.specs.Syntax as syntax
@@ -22,7 +23,6 @@ use Rattle.nu_carries.proofs.Facts.{Off, outside_off, outside_less}
 use Rattle.nu_carries.proofs.Carry.{AllEnds}
 use Rattle.nu_carries.proofs.Sequence.{Passes}
 use Rattle.nu_carries.proofs.Small.{within_off}
-use Rattle.nu_homes.specs.Names.{of_temp}
 use Rattle.nu_homes.proofs.Functions.{Extends}
 use Rattle.nu_guards.proofs.Steps.{value_then, do_then}
 use Rattle.nu_choices.specs.Parts.{CarriesPart, CarriesBeside}

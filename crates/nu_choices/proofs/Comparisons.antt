@@ -7,6 +7,7 @@ use Rattle.nu_rows.specs.Words.{then_value}
 use Rattle.node_tree.specs.declared.node.Argument.TheVariants as argument
 use Rattle.node_tree.specs.declared.node.Operand.{Operand}
 use Rattle.node_tree.specs.declared.node.Operand.TheVariants as operand
+use Rattle.node_tree.specs.Blocks.{of_temp}
 use Rattle.node_tree.specs.Blocks as tree
 use Rattle.node_tree.specs.Nodes as nodes
 use Rattle.py_meaning.specs.Syntax as syntax
@@ -19,7 +20,6 @@ use Rattle.nu_carries.proofs.Carry.{AllEnds, act_by}
 use Rattle.nu_carries.proofs.Sequence.{lessen, strengthen, seq_to, unvalued, one_by}
 use Rattle.nu_carries.proofs.Small.{within_off}
 use Rattle.nu_carries.proofs.Control.{branch_by}
-use Rattle.nu_homes.specs.Names.{of_temp}
 use Rattle.nu_homes.proofs.Functions.{Extends}
 use Rattle.nu_guards.proofs.Steps.{passed, value_then, do_then}
 use Rattle.nu_choices.specs.Parts.{CarriesPart}

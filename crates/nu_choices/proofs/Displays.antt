@@ -1,5 +1,5 @@
 -- Displays with stars, and dict displays, where their parts are carried.
-use Rattle.std.proofs.Common.{◌≡◌, inr, ℕ, ◌+◌, ◌<◌, ◌≤◌, true, false, List, [], ◌∷◌, Some, codes, refl, ap, arith}
+use Rattle.std.proofs.Common.{◌≡◌, inr, ℕ, ◌+◌, ◌<◌, ◌≤◌, true, false, List, [], ◌∷◌, Some, codes, refl, ap, subst, arith}
 use Rattle.nu_value.specs.declared.value.Value.{Value}
 use Rattle.nu_value.specs.declared.value.Value.TheVariants as value
 use Rattle.op_forms.specs.declared.op.Op.{Op}
@@ -8,8 +8,10 @@ use Rattle.nu_rows.specs.Words.{then_value}
 use Rattle.nu_calls.specs.Calls.{operate}
 use Rattle.node_tree.specs.declared.node.Argument.TheVariants as argument
 use Rattle.node_tree.specs.declared.node.Operand.TheVariants as operand
+use Rattle.node_tree.specs.Blocks.{of_temp}
 use Rattle.node_tree.specs.Blocks as tree
 use Rattle.node_tree.specs.Nodes as nodes
+use Rattle.node_tree.proofs.Direct.{append_stop}
 use Rattle.py_meaning.specs.Syntax as syntax
 use Rattle.py_meaning.specs.Frames as python
 use Rattle.py_meaning.specs.Expressions.{expression, gives, fill, enter}
@@ -18,7 +20,6 @@ use Rattle.nu_carries.specs.Carries.{Setting, source, target, EndsAs, CarriedTo,
 use Rattle.nu_carries.proofs.Facts.{Off, outside_off, outside_less}
 use Rattle.nu_carries.proofs.Carry.{AllEnds, act_by}
 use Rattle.nu_carries.proofs.Sequence.{strengthen, seq_to, gives_carried}
-use Rattle.nu_homes.specs.Names.{of_temp}
 use Rattle.nu_guards.proofs.Steps.{passed, passing, value_then, do_then}
 use Rattle.nu_choices.specs.Parts.{CarriesPart, CarriesBeside}
 use Rattle.nu_choices.specs.Displays.{Item, One, Star, Entry, Pair, Merge, added_block, pair_block, fill_block, enter_block, list_block, tuple_block, dict_block, CarriesDisplayed, CarriesEntries}
@@ -79,19 +80,21 @@ made_by z h low high line to fs o K then b rest above off fills next =
 itself : (z : Setting) (h : Homes) (high : ℕ) (fs : Facts) (into : Value) → CarriedTo z h (Into z h high fs) (Holds (operand.Temp high) into ∷ fs) (gives into) (nodes.block_row (target z) tree.Stop)
 itself z h high fs into = act_by z h _ (Into z h high fs) _ _ (λ tabs s t y. (refl, y))
 
-pub list_carried : (h : Homes) (low high line : ℕ) (items : syntax.Items) (ps : List Item) → behind h ≤ low → low ≤ high → CarriesDisplayed h low high items ps → CarriesExpression h low (high + 2) (syntax.Starred line false items) (list_block line high ps tree.Stop) (operand.Temp high)
-list_carried h low high line items ps st le c = record {
-  starts = st;
-  grows = omega arith;
-  within = (le, omega arith);
-  carries = λ z fs out.
-      let off : (d : ℕ) → low ≤ d → d < high + 2 → Off d fs = (λ d a b. outside_off h low (high + 2) d fs a b out) in
-      let below : Outside h low high fs = outside_less h low (high + 2) low high fs (omega arith) (omega arith) out in
-      made_by z h low high line high fs op.List _ _ (fill_block line high ps) tree.Stop (omega arith) (off high le (omega arith))
-      (λ into. fill_by z h low high line fs into st le below (off (high + 1) (omega arith) (omega arith)) items ps c) (itself z h high fs);
-}
+pub list_carried : (h : Homes) (low high line : ℕ) (items : syntax.Items) (ps : List Item) → behind h ≤ low → low ≤ high → CarriesDisplayed h low high items ps → CarriesExpression h low (high + 2) (syntax.Starred line false items) (list_block line high ps) (operand.Temp high)
+list_carried h low high line items ps st le c =
+    subst (λ b. CarriesExpression h low (high + 2) (syntax.Starred line false items) (tree.Follow (tree.Do high line op.List []) b) (operand.Temp high)) (append_stop (fill_block line high ps))
+    (record {
+      starts = st;
+      grows = omega arith;
+      within = (le, omega arith);
+      carries = λ z fs out.
+          let off : (d : ℕ) → low ≤ d → d < high + 2 → Off d fs = (λ d a b. outside_off h low (high + 2) d fs a b out) in
+          let below : Outside h low high fs = outside_less h low (high + 2) low high fs (omega arith) (omega arith) out in
+          made_by z h low high line high fs op.List _ _ (fill_block line high ps) tree.Stop (omega arith) (off high le (omega arith))
+          (λ into. fill_by z h low high line fs into st le below (off (high + 1) (omega arith) (omega arith)) items ps c) (itself z h high fs);
+    })
 
-pub tuple_carried : (h : Homes) (low high line : ℕ) (items : syntax.Items) (ps : List Item) → behind h ≤ low → low ≤ high → CarriesDisplayed h low high items ps → CarriesExpression h low (high + 3) (syntax.Starred line true items) (list_block line high ps (tuple_block line high)) (operand.Temp (high + 2))
+pub tuple_carried : (h : Homes) (low high line : ℕ) (items : syntax.Items) (ps : List Item) → behind h ≤ low → low ≤ high → CarriesDisplayed h low high items ps → CarriesExpression h low (high + 3) (syntax.Starred line true items) (tree.append (list_block line high ps) (tuple_block line high)) (operand.Temp (high + 2))
 tuple_carried h low high line items ps st le c = record {
   starts = st;
   grows = omega arith;
@@ -112,13 +115,15 @@ tuple_carried h low high line items ps st le c = record {
 }
 
 pub dict_carried : (h : Homes) (low high line : ℕ) (entries : syntax.Entries) (ps : List Entry) → behind h ≤ low → low ≤ high → CarriesEntries h low high entries ps → CarriesExpression h low (high + 2) (syntax.Dict line entries) (dict_block line high ps) (operand.Temp high)
-dict_carried h low high line entries ps st le c = record {
-  starts = st;
-  grows = omega arith;
-  within = (le, omega arith);
-  carries = λ z fs out.
-      let off : (d : ℕ) → low ≤ d → d < high + 2 → Off d fs = (λ d a b. outside_off h low (high + 2) d fs a b out) in
-      let below : Outside h low high fs = outside_less h low (high + 2) low high fs (omega arith) (omega arith) out in
-      made_by z h low high line high fs op.Dict _ _ (enter_block line high ps) tree.Stop (omega arith) (off high le (omega arith))
-      (λ into. enter_by z h low high line fs into st le below (off (high + 1) (omega arith) (omega arith)) entries ps c) (itself z h high fs);
-}
+dict_carried h low high line entries ps st le c =
+    subst (λ b. CarriesExpression h low (high + 2) (syntax.Dict line entries) (tree.Follow (tree.Do high line op.Dict []) b) (operand.Temp high)) (append_stop (enter_block line high ps))
+    (record {
+      starts = st;
+      grows = omega arith;
+      within = (le, omega arith);
+      carries = λ z fs out.
+          let off : (d : ℕ) → low ≤ d → d < high + 2 → Off d fs = (λ d a b. outside_off h low (high + 2) d fs a b out) in
+          let below : Outside h low high fs = outside_less h low (high + 2) low high fs (omega arith) (omega arith) out in
+          made_by z h low high line high fs op.Dict _ _ (enter_block line high ps) tree.Stop (omega arith) (off high le (omega arith))
+          (λ into. enter_by z h low high line fs into st le below (off (high + 1) (omega arith) (omega arith)) entries ps c) (itself z h high fs);
+    })

@@ -11,6 +11,7 @@ use Rattle.nu_calls.specs.Calls.{operate}
 use Rattle.node_tree.specs.declared.node.Argument.{Argument}
 use Rattle.node_tree.specs.declared.node.Operand.{Operand}
 use Rattle.node_tree.specs.declared.node.Operand.TheVariants as operand
+use Rattle.node_tree.specs.Blocks.{alone}
 use Rattle.node_tree.specs.Blocks as tree
 use Rattle.node_tree.specs.Nodes as nodes
 use Rattle.py_meaning.specs.Syntax as syntax
@@ -18,7 +19,7 @@ use Rattle.py_meaning.specs.Frames as python
 use Rattle.py_meaning.specs.Expressions.{expression, gives}
 use Rattle.nu_carries.specs.Frames.{Homes, behind, Holds, Facts, Fits, IsWithin, Outside}
 use Rattle.nu_carries.specs.Carries.{Setting, source, target, columns, S, T, Tables, Correspond, EndsAs, CarriedTo, Carrier, Knows}
-use Rattle.nu_carries.specs.Laws.{alone, Within}
+use Rattle.nu_carries.specs.Laws.{Within}
 use Rattle.nu_carries.proofs.Facts.{Off, outside_less, refit, fresh}
 use Rattle.nu_carries.proofs.Carry.{AllEnds, Settles, tidy_by, append_by}
 use Rattle.nu_carries.proofs.Sequence.{Passes, passes, lessen, unvalued, one_by, gives_carried}

@@ -5,12 +5,12 @@ use Rattle.op_forms.specs.declared.op.Op.TheVariants as op
 use Rattle.node_tree.specs.declared.node.Argument.TheVariants as argument
 use Rattle.node_tree.specs.declared.node.Operand.{Operand}
 use Rattle.node_tree.specs.declared.node.Operand.TheVariants as operand
+use Rattle.node_tree.specs.Blocks.{alone, of_temp}
 use Rattle.node_tree.specs.Blocks as tree
 use Rattle.py_meaning.specs.Syntax as syntax
 use Rattle.nu_carries.specs.Frames.{Homes}
 use Rattle.nu_carries.specs.Carries.{Carrier}
-use Rattle.nu_carries.specs.Laws.{alone, if_block}
-use Rattle.nu_homes.specs.Names.{of_temp}
+use Rattle.nu_carries.specs.Laws.{if_block}
 use Rattle.nu_choices.specs.Parts.{moved, into, CarriesBeside}
 
 -- `or` where `any` is true, else `and`: the truth of the first part goes to t, and the value of the whole to the next temporary

@@ -3,12 +3,11 @@ use Rattle.std.specs.Prelude.{ℕ, ◌+◌, List, [], ◌∷◌, codes}
 use Rattle.op_forms.specs.declared.op.Op.{Op}
 use Rattle.op_forms.specs.declared.op.Op.TheVariants as op
 use Rattle.node_tree.specs.declared.node.Argument.TheVariants as argument
+use Rattle.node_tree.specs.Blocks.{alone, of_temp}
 use Rattle.node_tree.specs.Blocks as tree
 use Rattle.py_meaning.specs.Syntax as syntax
 use Rattle.nu_carries.specs.Frames.{Homes}
 use Rattle.nu_carries.specs.Carries.{Carrier}
-use Rattle.nu_carries.specs.Laws.{alone}
-use Rattle.nu_homes.specs.Names.{of_temp}
 use Rattle.nu_choices.specs.Parts.{CarriesPart, CarriesBeside}
 
 -- the parts of an item, and of an entry
@@ -41,8 +40,8 @@ enter_block line t (Pair k p ∷ entries) = pair_block line t k p (enter_block l
 enter_block line t (Merge p ∷ entries) = added_block line t (t + 1) op.Merge p (enter_block line t entries)
 
 -- a list, and its items as a tuple
-abbrev pub list_block : ℕ → ℕ → List Item → tree.Block → tree.Block
-list_block line t items rest = tree.Follow (tree.Do t line op.List []) (tree.append (fill_block line t items) rest)
+abbrev pub list_block : ℕ → ℕ → List Item → tree.Block
+list_block line t items = tree.Follow (tree.Do t line op.List []) (fill_block line t items)
 
 abbrev pub tuple_block : ℕ → ℕ → tree.Block
 tuple_block line t =
@@ -50,7 +49,7 @@ tuple_block line t =
     (alone (tree.Do (t + 2) line op.Call (of_temp (t + 1) ∷ of_temp t ∷ [])))
 
 abbrev pub dict_block : ℕ → ℕ → List Entry → tree.Block
-dict_block line t entries = tree.Follow (tree.Do t line op.Dict []) (tree.append (enter_block line t entries) tree.Stop)
+dict_block line t entries = tree.Follow (tree.Do t line op.Dict []) (enter_block line t entries)
 
 abbrev pub CarriesDisplayed : Homes → ℕ → ℕ → syntax.Items → List Item → Type 0
 CarriesDisplayed h low high syntax.NoItem [] = Unit {0}

@@ -18,8 +18,8 @@ pub record CarriesChoices : Type 0 where
 
 pub record CarriesDisplays : Type 0 where
   -- with a star; displays without one are operations
-  pub list : (h : Homes) (low high line : ℕ) (items : syntax.Items) (ps : List Item) → behind h ≤ low → low ≤ high → CarriesDisplayed h low high items ps → CarriesExpression h low (high + 2) (syntax.Starred line false items) (list_block line high ps tree.Stop) (operand.Temp high)
-  pub tuple : (h : Homes) (low high line : ℕ) (items : syntax.Items) (ps : List Item) → behind h ≤ low → low ≤ high → CarriesDisplayed h low high items ps → CarriesExpression h low (high + 3) (syntax.Starred line true items) (list_block line high ps (tuple_block line high)) (operand.Temp (high + 2))
+  pub list : (h : Homes) (low high line : ℕ) (items : syntax.Items) (ps : List Item) → behind h ≤ low → low ≤ high → CarriesDisplayed h low high items ps → CarriesExpression h low (high + 2) (syntax.Starred line false items) (list_block line high ps) (operand.Temp high)
+  pub tuple : (h : Homes) (low high line : ℕ) (items : syntax.Items) (ps : List Item) → behind h ≤ low → low ≤ high → CarriesDisplayed h low high items ps → CarriesExpression h low (high + 3) (syntax.Starred line true items) (tree.append (list_block line high ps) (tuple_block line high)) (operand.Temp (high + 2))
   pub dict : (h : Homes) (low high line : ℕ) (entries : syntax.Entries) (ps : List Entry) → behind h ≤ low → low ≤ high → CarriesEntries h low high entries ps → CarriesExpression h low (high + 2) (syntax.Dict line entries) (dict_block line high ps) (operand.Temp high)
 
 -- a call with stars or keywords; one without them is an operation

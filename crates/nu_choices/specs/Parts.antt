@@ -1,12 +1,12 @@
 -- Parts of expressions, which write temporaries in front of those that are drawn for the whole.
 use Rattle.std.specs.Prelude.{ℕ}
 use Rattle.node_tree.specs.declared.node.Operand.{Operand}
+use Rattle.node_tree.specs.Blocks.{alone, puts}
 use Rattle.node_tree.specs.Blocks as tree
 use Rattle.py_meaning.specs.Syntax as syntax
 use Rattle.nu_carries.specs.Frames.{Homes, IsOff}
 use Rattle.nu_carries.specs.Carries.{Carrier, CarriesExpression}
-use Rattle.nu_carries.specs.Laws.{alone, Within}
-use Rattle.nu_homes.specs.Names.{puts}
+use Rattle.nu_carries.specs.Laws.{Within}
 
 -- what an operand holds goes to a temporary
 abbrev pub moved : ℕ → Operand → tree.Block

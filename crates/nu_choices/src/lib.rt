@@ -1,4 +1,6 @@
 //! When blocks of primitive statements carry expressions whose parts aren't all evaluated, and those that collect their parts.
+//!
+//! The laws serve the reformulation of scripts: where the blocks that it builds are these, their runs are those of the script.
 #![tactic(auto)]
 
 ghost use Rattle.nu_choices.specs.Laws.{CarriesChoices, CarriesDisplays, CarriesCalls};

@@ -9,6 +9,7 @@ use Rattle.node_tree.specs.declared.node.Argument.{Argument}
 use Rattle.node_tree.specs.declared.node.Argument.TheVariants as argument
 use Rattle.node_tree.specs.declared.node.Operand.{Operand}
 use Rattle.node_tree.specs.declared.node.Operand.TheVariants as operand
+use Rattle.node_tree.specs.Blocks.{alone, of_temp}
 use Rattle.node_tree.specs.Blocks as tree
 use Rattle.node_tree.specs.Nodes as nodes
 use Rattle.py_meaning.specs.Syntax as syntax
@@ -17,12 +18,11 @@ use Rattle.py_meaning.specs.Expressions.{bare_function}
 use Rattle.py_meaning.specs.Statements.{class_made, statement}
 use Rattle.nu_carries.specs.Frames.{Homes, HaveRoom, behind, Holds, Facts, Fits, IsOff, Outside}
 use Rattle.nu_carries.specs.Carries.{Setting, source, target, EndsAs, CarriedTo, Carried, Knows, Carrier, CarriesExpression, CarriesTarget, CarriesStatement, joined}
-use Rattle.nu_carries.specs.Laws.{alone, Within}
+use Rattle.nu_carries.specs.Laws.{Within}
 use Rattle.nu_carries.proofs.Facts.{Off, outside_off, outside_less, within_below}
 use Rattle.nu_carries.proofs.Carry.{AllEnds}
 use Rattle.nu_carries.proofs.Sequence.{Passes, lessen, passes, seq_to, unvalued, one_by}
 use Rattle.nu_carries.proofs.Operations.{operate_carried}
-use Rattle.nu_homes.specs.Names.{of_temp}
 use Rattle.nu_homes.specs.Functions.{HasCells}
 use Rattle.nu_homes.proofs.Functions.{Extends, function_carried}
 use Rattle.nu_guards.proofs.Steps.{passed, passing, value_then, do_then}

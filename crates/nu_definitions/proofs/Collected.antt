@@ -8,6 +8,7 @@ use Rattle.op_forms.specs.declared.op.Op.TheVariants as op
 use Rattle.node_tree.specs.declared.node.Argument.TheVariants as argument
 use Rattle.node_tree.specs.declared.node.Operand.{Operand}
 use Rattle.node_tree.specs.declared.node.Operand.TheVariants as operand
+use Rattle.node_tree.specs.Blocks.{alone, of_temp}
 use Rattle.node_tree.specs.Blocks as tree
 use Rattle.node_tree.specs.Nodes as nodes
 use Rattle.py_meaning.specs.Syntax as syntax
@@ -15,14 +16,13 @@ use Rattle.py_meaning.specs.Frames as python
 use Rattle.py_meaning.specs.Bodies.{ranges}
 use Rattle.nu_carries.specs.Frames.{Homes, HaveRoom, local_at, behind, Holds, Facts, IsOff, Outside}
 use Rattle.nu_carries.specs.Carries.{Setting, source, target, Correspond, EndsAs, BodyEnds, CarriedTo, Knows, CarriesExpression, CarriesTarget}
-use Rattle.nu_carries.specs.Laws.{alone, Within}
+use Rattle.nu_carries.specs.Laws.{Within}
 use Rattle.nu_carries.proofs.Facts.{Off, outside_off, outside_less, within_below, fresh, refit}
 use Rattle.nu_carries.proofs.Carry.{AllEnds, Midway, by_map, right_by}
 use Rattle.nu_carries.proofs.Sequence.{passes, seq_to, unvalued, one_by, reads_by}
 use Rattle.nu_carries.proofs.Codes.{body_ends}
 use Rattle.nu_carries.proofs.Control.{return_by}
 use Rattle.nu_homes.specs.Begun.{CarriesBody}
-use Rattle.nu_homes.specs.Names.{of_temp}
 use Rattle.nu_homes.specs.Functions.{HasCells}
 use Rattle.nu_homes.proofs.Functions.{Extends}
 use Rattle.nu_guards.proofs.Steps.{passed, passing, value_then, do_then}

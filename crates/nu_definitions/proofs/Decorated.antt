@@ -7,6 +7,7 @@ use Rattle.nu_calls.specs.Calls.{operate}
 use Rattle.node_tree.specs.declared.node.Argument.TheVariants as argument
 use Rattle.node_tree.specs.declared.node.Operand.{Operand}
 use Rattle.node_tree.specs.declared.node.Operand.TheVariants as operand
+use Rattle.node_tree.specs.Blocks.{alone}
 use Rattle.node_tree.specs.Blocks as tree
 use Rattle.node_tree.specs.Nodes as nodes
 use Rattle.py_meaning.specs.Syntax as syntax
@@ -14,7 +15,7 @@ use Rattle.py_meaning.specs.Frames as python
 use Rattle.py_meaning.specs.Statements.{decorators, decorated, statement}
 use Rattle.nu_carries.specs.Frames.{Homes, behind, Holds, Facts, IsOff, Outside}
 use Rattle.nu_carries.specs.Carries.{Setting, source, target, EndsAs, CarriedTo, Knows, Carrier, CarriesExpression, CarriesTarget, CarriesStatement, joined}
-use Rattle.nu_carries.specs.Laws.{alone, Within}
+use Rattle.nu_carries.specs.Laws.{Within}
 use Rattle.nu_carries.proofs.Facts.{outside_off, outside_less, within_below}
 use Rattle.nu_carries.proofs.Carry.{AllEnds}
 use Rattle.nu_carries.proofs.Sequence.{Passes, strengthen, lessen, more_leaves}

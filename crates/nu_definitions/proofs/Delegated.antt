@@ -9,6 +9,7 @@ use Rattle.nu_calls.specs.Calls.{yields}
 use Rattle.node_tree.specs.declared.node.Argument.TheVariants as argument
 use Rattle.node_tree.specs.declared.node.Operand.{Operand}
 use Rattle.node_tree.specs.declared.node.Operand.TheVariants as operand
+use Rattle.node_tree.specs.Blocks.{alone, of_temp}
 use Rattle.node_tree.specs.Blocks as tree
 use Rattle.node_tree.specs.Nodes as nodes
 use Rattle.py_meaning.specs.Syntax as syntax
@@ -16,7 +17,6 @@ use Rattle.py_meaning.specs.Frames as python
 use Rattle.py_meaning.specs.Expressions.{woken, delegate_turn, result}
 use Rattle.nu_carries.specs.Frames.{Homes, behind, Holds, Keeps, Facts}
 use Rattle.nu_carries.specs.Carries.{Setting, source, target, S, T, Tables, Correspond, EndsAs, CarriedBy, CarriedTo, CarriesExpression}
-use Rattle.nu_carries.specs.Laws.{alone}
 use Rattle.nu_carries.proofs.Facts.{Off, outside_off, outside_less, refit}
 use Rattle.nu_carries.proofs.Carry.{AllEnds, Settles, none_by, act_by, then_by, tidy_by, left_by, alike_by, Midway, loop_by}
 use Rattle.nu_carries.proofs.Sequence.{used_case, used_same, Passes, Unvalued, ends_map, strengthen, lessen, passes, next_to, unvalued, one_carried, read_by, reads_by}
@@ -24,7 +24,6 @@ use Rattle.nu_carries.proofs.Small.{within_off}
 use Rattle.nu_carries.proofs.Operations.{operate_carried, storing_by, yields_by}
 use Rattle.nu_carries.proofs.Control.{writes_first}
 use Rattle.node_redirect.specs.Shown.{Exits}
-use Rattle.nu_homes.specs.Names.{of_temp}
 use Rattle.nu_guards.specs.Raises.{stopped_block}
 use Rattle.nu_guards.specs.Loops.{attempt}
 use Rattle.nu_guards.proofs.Steps.{value_then, do_then}

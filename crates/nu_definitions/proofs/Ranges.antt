@@ -9,6 +9,7 @@ use Rattle.nu_rows.specs.Words.{ends_with, on_next, then_value, choose}
 use Rattle.nu_calls.specs.Calls.{operate}
 use Rattle.node_tree.specs.declared.node.Operand.{Operand}
 use Rattle.node_tree.specs.declared.node.Operand.TheVariants as operand
+use Rattle.node_tree.specs.Blocks.{alone, of_temp}
 use Rattle.node_tree.specs.Blocks as tree
 use Rattle.node_tree.specs.Nodes as nodes
 use Rattle.py_meaning.specs.Syntax as syntax
@@ -18,13 +19,12 @@ use Rattle.py_meaning.specs.Statements.{assign}
 use Rattle.py_meaning.specs.Bodies.{collect_turn, turns}
 use Rattle.nu_carries.specs.Frames.{Homes, behind, Holds, Facts, Outside}
 use Rattle.nu_carries.specs.Carries.{Setting, source, target, columns, S, T, Tables, Correspond, EndsAs, CarriedTo, Knows, CarriesTarget}
-use Rattle.nu_carries.specs.Laws.{alone, Within}
+use Rattle.nu_carries.specs.Laws.{Within}
 use Rattle.nu_carries.proofs.Facts.{Off, outside_off, outside_less, refit}
 use Rattle.nu_carries.proofs.Carry.{AllEnds, Settles, act_by, tidy_by, append_by, loop_by}
 use Rattle.nu_carries.proofs.Sequence.{Passes, Unvalued, strengthen, lessen, passes_to, seq_to, one_by, one_carried}
 use Rattle.nu_carries.proofs.Operations.{operate_carried}
 use Rattle.nu_carries.proofs.Control.{EndsLoop, once_by, writes_first}
-use Rattle.nu_homes.specs.Names.{of_temp}
 use Rattle.nu_guards.specs.Raises.{stopped_block}
 use Rattle.nu_guards.specs.Loops.{attempt, for_turn_block}
 use Rattle.nu_guards.proofs.Again.{stopped_by}

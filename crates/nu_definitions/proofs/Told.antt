@@ -8,19 +8,18 @@ use Rattle.nu_calls.specs.Calls.{operate}
 use Rattle.node_tree.specs.declared.node.Argument.{Argument}
 use Rattle.node_tree.specs.declared.node.Argument.TheVariants as argument
 use Rattle.node_tree.specs.declared.node.Operand.TheVariants as operand
+use Rattle.node_tree.specs.Blocks.{alone, of_temp}
 use Rattle.node_tree.specs.Blocks as tree
 use Rattle.node_tree.specs.Nodes as nodes
 use Rattle.py_meaning.specs.Frames as python
 use Rattle.py_meaning.specs.Expressions.{delegated, resumes, raise_again, told}
 use Rattle.nu_carries.specs.Frames.{Homes, behind, Holds, Keeps, Facts, Fits, Outside}
 use Rattle.nu_carries.specs.Carries.{Setting, source, target, Correspond, CarriedTo, Knows}
-use Rattle.nu_carries.specs.Laws.{alone}
 use Rattle.nu_carries.proofs.Facts.{Off, outside_off, fresh, refit}
 use Rattle.nu_carries.proofs.Carry.{AllEnds, Midway, act_by, left_by, right_by}
 use Rattle.nu_carries.proofs.Sequence.{weaken, lessen, then_carried, seq_to, one_by, one_carried}
 use Rattle.nu_carries.proofs.Operations.{operate_carried}
 use Rattle.nu_carries.proofs.Control.{branch_by, writes_first}
-use Rattle.nu_homes.specs.Names.{of_temp}
 use Rattle.nu_homes.proofs.Functions.{Extends}
 use Rattle.nu_guards.specs.Raises.{stopped_block}
 use Rattle.nu_guards.specs.Finish.{none}

@@ -4,12 +4,11 @@ use Rattle.op_forms.specs.declared.op.Op.TheVariants as op
 use Rattle.node_tree.specs.declared.node.Argument.TheVariants as argument
 use Rattle.node_tree.specs.declared.node.Operand.{Operand}
 use Rattle.node_tree.specs.declared.node.Operand.TheVariants as operand
+use Rattle.node_tree.specs.Blocks.{alone, of_temp}
 use Rattle.node_tree.specs.Blocks as tree
 use Rattle.py_meaning.specs.Syntax as syntax
 use Rattle.nu_carries.specs.Frames.{Homes, behind}
 use Rattle.nu_carries.specs.Carries.{Carrier, CarriesExpression, joined}
-use Rattle.nu_carries.specs.Laws.{alone}
-use Rattle.nu_homes.specs.Names.{of_temp}
 use Rattle.nu_homes.specs.Functions.{function_block}
 
 -- decorators one after another, each by its own block

@@ -1,4 +1,6 @@
 //! When blocks of primitive statements carry definitions of functions and classes, comprehensions, and `yield from`.
+//!
+//! The laws serve the reformulation of scripts: where the blocks that it builds are these, their runs are those of the script.
 #![tactic(auto)]
 
 ghost use Rattle.nu_definitions.specs.Laws.{CarriesComprehensions, CarriesDefinitions, CarriesDelegation};

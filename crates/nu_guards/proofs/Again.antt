@@ -11,20 +11,19 @@ use Rattle.nu_rows.specs.Words.{then_value, choose}
 use Rattle.nu_calls.specs.Exceptions.{class_of}
 use Rattle.node_tree.specs.declared.node.Argument.TheVariants as argument
 use Rattle.node_tree.specs.declared.node.Operand.TheVariants as operand
+use Rattle.node_tree.specs.Blocks.{alone, of_temp}
 use Rattle.node_tree.specs.Blocks as tree
 use Rattle.node_tree.specs.Nodes as nodes
 use Rattle.py_meaning.specs.Frames as python
 use Rattle.py_meaning.specs.Expressions.{is_one_of, again, raise_again}
 use Rattle.nu_carries.specs.Frames.{Homes, behind, Holds, Facts}
 use Rattle.nu_carries.specs.Carries.{Setting, source, target, S, T, Tables, Correspond, CarriedTo, Knows}
-use Rattle.nu_carries.specs.Laws.{alone}
 use Rattle.nu_carries.proofs.Facts.{Off, refit}
 use Rattle.nu_carries.proofs.Carry.{AllEnds, act_by}
 use Rattle.nu_carries.proofs.Sequence.{Passes, Unvalued, weaken, strengthen, then_carried, seq_to, one_by, one_carried, read_by}
 use Rattle.nu_carries.proofs.Operations.{operate_carried}
 use Rattle.nu_carries.proofs.Control.{branch_by}
 use Rattle.nu_homes.proofs.Functions.{Extends}
-use Rattle.nu_homes.specs.Names.{of_temp}
 use Rattle.nu_guards.specs.Raises.{stopped_block}
 use Rattle.nu_guards.proofs.Steps.{passed}
 

@@ -6,12 +6,12 @@ use Rattle.op_forms.specs.declared.constant.Const.TheVariants as const
 use Rattle.nu_rows.specs.Rows.{End, Next, Leave, Raised, Return, Stopped, Undefined, Then}
 use Rattle.nu_rows.specs.Words.{ends_with, on_next, on_raised}
 use Rattle.node_tree.specs.declared.node.Operand.TheVariants as operand
+use Rattle.node_tree.specs.Blocks.{alone}
 use Rattle.node_tree.specs.Blocks as tree
 use Rattle.node_tree.specs.Nodes as nodes
 use Rattle.py_meaning.specs.Frames as python
 use Rattle.nu_carries.specs.Frames.{Homes, behind, Holds, Facts, Fits}
 use Rattle.nu_carries.specs.Carries.{Setting, target, S, T, Tables, Correspond, EndsAs, CarriedBy, CarriedTo}
-use Rattle.nu_carries.specs.Laws.{alone}
 use Rattle.nu_carries.proofs.Facts.{Off, fresh}
 use Rattle.nu_carries.proofs.Carry.{AllEnds, Settles, none_by, act_by, then_by, tidy_by}
 use Rattle.nu_carries.proofs.Sequence.{Unvalued, one_by}

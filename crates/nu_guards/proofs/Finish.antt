@@ -6,14 +6,15 @@ use Rattle.op_forms.specs.declared.constant.Const.TheVariants as const
 use Rattle.nu_rows.specs.Rows.{End, Next, Leave, Raised, Return, Stopped, Undefined, Then}
 use Rattle.nu_rows.specs.Words.{ends_with, on_next, choose}
 use Rattle.node_tree.specs.declared.node.Operand.TheVariants as operand
+use Rattle.node_tree.specs.Blocks.{alone}
 use Rattle.node_tree.specs.Blocks as tree
 use Rattle.node_tree.specs.Nodes as nodes
 use Rattle.py_meaning.specs.Syntax as syntax
 use Rattle.py_meaning.specs.Frames as python
-use Rattle.py_meaning.specs.Statements.{goes_on, pending, finishing}
+use Rattle.py_meaning.specs.Statements.{ends_again, pending, finishing}
 use Rattle.nu_carries.specs.Frames.{Homes, behind, Facts, Fits, Outside}
 use Rattle.nu_carries.specs.Carries.{Setting, target, EndsAs, CarriedBy, CarriedTo, Carried, CarriesTarget, CarriesStatement, CarriesBlock}
-use Rattle.nu_carries.specs.Laws.{alone, Within}
+use Rattle.nu_carries.specs.Laws.{Within}
 use Rattle.nu_carries.proofs.Facts.{Off, outside_off, outside_less, refit}
 use Rattle.nu_carries.proofs.Carry.{AllEnds, none_by, act_by, then_by, append_by}
 use Rattle.nu_carries.proofs.Sequence.{passes_to, more_leaves, seq_to, seq_carried, unvalued, one_by}
@@ -86,7 +87,7 @@ module _ (z : Setting) (h : Homes) (fs : Facts) (t : ℕ) where
   onward_by Undefined gs may more = absurd may
 
   -- the end that was pending goes on
-  dispatch : (e : End) → MayPend e → CarriedTo z h Ends (pend t fs e) (goes_on e) (nodes.block_row (target z) (raised_or t (onward t)))
+  dispatch : (e : End) → MayPend e → CarriedTo z h Ends (pend t fs e) (ends_again e) (nodes.block_row (target z) (raised_or t (onward t)))
   dispatch (Raised x) may =
       if_by (pend t fs (Raised x)) (t + 2) true _ (alone (tree.Raise (operand.Temp t))) (onward t) (λ c g y. y.0)
       (one_by z h 2 _ Ends _ _ (unvalued z h 2 (λ v. fs) fs) (again_by z h fs Ends (passing z h 2 fs) (pend t fs (Raised x)) t x (pend_less t fs (Raised x)) (λ c g y. y.1.1.0)))

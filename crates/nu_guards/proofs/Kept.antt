@@ -6,17 +6,17 @@ use Rattle.nu_rows.specs.Rows.{End, Next, Leave, Raised, Return, Stopped, Undefi
 use Rattle.nu_rows.specs.Words.{ends_with, on_next, on_raised}
 use Rattle.nu_rows.specs.Sim.{Places, Below, other_places, other_ends, Both}
 use Rattle.node_tree.specs.declared.node.Operand.TheVariants as operand
+use Rattle.node_tree.specs.Blocks.{alone, flag}
 use Rattle.node_tree.specs.Blocks as tree
 use Rattle.node_tree.specs.Nodes as nodes
 use Rattle.node_tree.specs.Tree.{code_block}
 use Rattle.py_meaning.specs.Frames as python
 use Rattle.nu_carries.specs.Frames.{Homes, behind, Fact, Holds, Facts}
 use Rattle.nu_carries.specs.Carries.{Setting, target, rows, columns, S, T, Tables, Correspond, At, EndsAs, CarriedBy, CarriedTo}
-use Rattle.nu_carries.specs.Laws.{alone}
 use Rattle.nu_carries.proofs.Facts.{Off, fresh}
 use Rattle.nu_carries.proofs.Carry.{States, AllEnds, Settles, by_map, none_by, act_by, then_by, tidy_by}
 use Rattle.nu_carries.proofs.Control.{EndsLoop, once_by}
-use Rattle.node_redirect.specs.Redirect.{flag, is_further}
+use Rattle.node_redirect.specs.Redirect.{is_further}
 use Rattle.nu_guards.specs.Finish.{guarded_block, guarded}
 use Rattle.node_redirect.specs.Shown.{shown_end, shown_state, shown, Redirected}
 use Rattle.node_redirect.proofs.Redirected.{block_same}

@@ -9,6 +9,7 @@ use Rattle.nu_calls.specs.Calls.{operate}
 use Rattle.node_tree.specs.declared.node.Argument.TheVariants as argument
 use Rattle.node_tree.specs.declared.node.Operand.{Operand}
 use Rattle.node_tree.specs.declared.node.Operand.TheVariants as operand
+use Rattle.node_tree.specs.Blocks.{alone, of_temp}
 use Rattle.node_tree.specs.Blocks as tree
 use Rattle.node_tree.specs.Nodes as nodes
 use Rattle.py_meaning.specs.Syntax as syntax
@@ -17,7 +18,7 @@ use Rattle.py_meaning.specs.Expressions.{stopped_or}
 use Rattle.py_meaning.specs.Statements.{assign, block, body_ended, exhausted}
 use Rattle.nu_carries.specs.Frames.{Homes, behind, Holds, Facts, Outside}
 use Rattle.nu_carries.specs.Carries.{Setting, source, target, S, T, Tables, Correspond, EndsAs, CarriedTo, Handles, CarriesExpression, CarriesTarget, CarriesStatement, CarriesBlock}
-use Rattle.nu_carries.specs.Laws.{alone, Within}
+use Rattle.nu_carries.specs.Laws.{Within}
 use Rattle.nu_carries.proofs.Facts.{Off, outside_off, outside_less, refit}
 use Rattle.nu_carries.proofs.Carry.{AllEnds, act_by, then_by, loop_by}
 use Rattle.nu_carries.proofs.Sequence.{strengthen, lessen, passes_to, seq_to, one_by, one_carried}
@@ -25,7 +26,6 @@ use Rattle.nu_carries.proofs.Small.{within_off}
 use Rattle.nu_carries.proofs.Operations.{operate_carried}
 use Rattle.nu_carries.proofs.Control.{writes_first}
 use Rattle.nu_homes.proofs.Functions.{Extends}
-use Rattle.nu_homes.specs.Names.{of_temp}
 use Rattle.nu_guards.specs.Raises.{stopped_block}
 use Rattle.nu_guards.specs.Loops.{attempt, for_turn_block, for_block}
 use Rattle.nu_guards.proofs.Steps.{passing, value_then, do_then}

@@ -9,6 +9,7 @@ use Rattle.node_tree.specs.declared.node.Argument.{Argument}
 use Rattle.node_tree.specs.declared.node.Argument.TheVariants as argument
 use Rattle.node_tree.specs.declared.node.Operand.{Operand}
 use Rattle.node_tree.specs.declared.node.Operand.TheVariants as operand
+use Rattle.node_tree.specs.Blocks.{alone, of_temp}
 use Rattle.node_tree.specs.Blocks as tree
 use Rattle.node_tree.specs.Nodes as nodes
 use Rattle.py_meaning.specs.Syntax as syntax
@@ -17,13 +18,11 @@ use Rattle.py_meaning.specs.Expressions.{expression}
 use Rattle.py_meaning.specs.Statements.{raise}
 use Rattle.nu_carries.specs.Frames.{Homes, behind, Holds, Facts, Fits, Outside}
 use Rattle.nu_carries.specs.Carries.{Setting, source, target, EndsAs, CarriedTo, CarriesExpression}
-use Rattle.nu_carries.specs.Laws.{alone}
 use Rattle.nu_carries.proofs.Facts.{Off}
 use Rattle.nu_carries.proofs.Carry.{AllEnds}
 use Rattle.nu_carries.proofs.Sequence.{Passes, lessen, passes_to, seq_to, then_to, unvalued, one_by}
 use Rattle.nu_carries.proofs.Operations.{operate_carried}
 use Rattle.nu_homes.proofs.Functions.{Extends}
-use Rattle.nu_homes.specs.Names.{of_temp}
 use Rattle.nu_guards.specs.Raises.{raise_block}
 
 module _ (z : Setting) (h : Homes) (fs : Facts) (Q : AllEnds) (pass : Passes z h 0 (λ v. fs) fs Q) where

@@ -9,6 +9,7 @@ use Rattle.node_tree.specs.declared.node.Argument.{Argument}
 use Rattle.node_tree.specs.declared.node.Argument.TheVariants as argument
 use Rattle.node_tree.specs.declared.node.Operand.{Operand}
 use Rattle.node_tree.specs.declared.node.Operand.TheVariants as operand
+use Rattle.node_tree.specs.Blocks.{alone, of_temp}
 use Rattle.node_tree.specs.Blocks as tree
 use Rattle.node_tree.specs.Nodes as nodes
 use Rattle.py_meaning.specs.Syntax as syntax
@@ -16,14 +17,13 @@ use Rattle.py_meaning.specs.Frames as python
 use Rattle.py_meaning.specs.Statements.{tries, reraise, fails}
 use Rattle.nu_carries.specs.Frames.{Homes, behind, Holds, Facts, Outside}
 use Rattle.nu_carries.specs.Carries.{Setting, source, target, S, T, Tables, Correspond, EndsAs, CarriedTo, Handles, Carrier, CarriesExpression, CarriesStatement, CarriesBlock, CarriesAll, joined}
-use Rattle.nu_carries.specs.Laws.{alone, Within}
+use Rattle.nu_carries.specs.Laws.{Within}
 use Rattle.nu_carries.proofs.Facts.{Off, fresh, outside_off, outside_less}
 use Rattle.nu_carries.proofs.Carry.{AllEnds, Midway, right_by}
 use Rattle.nu_carries.proofs.Sequence.{weaken, strengthen, lessen, unvalued, one_by, gives_carried}
 use Rattle.nu_carries.proofs.Small.{within_off}
 use Rattle.nu_carries.proofs.Control.{branch_by, writes_first}
 use Rattle.nu_homes.proofs.Functions.{Extends, KnowsAll, known_values, all_grow, each_to}
-use Rattle.nu_homes.specs.Names.{of_temp}
 use Rattle.nu_guards.specs.Raises.{raise_block, fails_block, assert_block}
 use Rattle.nu_guards.specs.Tries.{try_block, clause_block, CarriesHandlers, CarriesClause}
 use Rattle.nu_guards.proofs.Steps.{passing, value_then, do_then, raise_by}

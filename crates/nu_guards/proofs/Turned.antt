@@ -5,6 +5,7 @@ use Rattle.nu_value.specs.declared.value.Value.TheVariants as value
 use Rattle.nu_rows.specs.Rows.{End, Next, Leave, Raised, Return, Stopped, Undefined, Then}
 use Rattle.nu_rows.specs.Words.{on_next}
 use Rattle.node_tree.specs.declared.node.Operand.TheVariants as operand
+use Rattle.node_tree.specs.Blocks.{alone}
 use Rattle.node_tree.specs.Blocks as tree
 use Rattle.node_tree.specs.Nodes as nodes
 use Rattle.py_meaning.specs.Frames as python
@@ -12,7 +13,6 @@ use Rattle.py_meaning.specs.Statements.{body_ended, else_behind}
 use Rattle.nu_carries.specs.Frames.{Homes, Holds, Facts}
 use Rattle.nu_carries.specs.Carries.{Setting, target, S, T, Tables, Correspond, EndsAs, CarriedBy, CarriedTo, Carried}
 use Rattle.nu_carries.specs.Turns.{TurnedEnds}
-use Rattle.nu_carries.specs.Laws.{alone}
 use Rattle.nu_carries.proofs.Facts.{refit}
 use Rattle.nu_carries.proofs.Carry.{AllEnds, none_by, act_by, then_by, append_by}
 use Rattle.nu_carries.proofs.Sequence.{Passes, Unvalued, strengthen, unvalued, one_by}

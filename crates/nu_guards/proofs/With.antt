@@ -9,6 +9,7 @@ use Rattle.nu_calls.specs.Calls.{operate}
 use Rattle.node_tree.specs.declared.node.Argument.TheVariants as argument
 use Rattle.node_tree.specs.declared.node.Operand.{Operand}
 use Rattle.node_tree.specs.declared.node.Operand.TheVariants as operand
+use Rattle.node_tree.specs.Blocks.{alone, of_temp}
 use Rattle.node_tree.specs.Blocks as tree
 use Rattle.node_tree.specs.Nodes as nodes
 use Rattle.py_meaning.specs.Syntax as syntax
@@ -16,14 +17,13 @@ use Rattle.py_meaning.specs.Frames as python
 use Rattle.py_meaning.specs.Statements.{assign_all, leaves_by, leaving}
 use Rattle.nu_carries.specs.Frames.{Homes, behind, Holds, Facts, Fits, Outside}
 use Rattle.nu_carries.specs.Carries.{Setting, source, target, EndsAs, CarriedTo, CarriesExpression, CarriesGiven, CarriesStatement, CarriesBlock}
-use Rattle.nu_carries.specs.Laws.{alone, Within}
+use Rattle.nu_carries.specs.Laws.{Within}
 use Rattle.nu_carries.proofs.Facts.{Off, outside_off, outside_less, refit}
 use Rattle.nu_carries.proofs.Carry.{AllEnds, by_map}
 use Rattle.nu_carries.proofs.Sequence.{ends_map, strengthen, passes_to, seq_to, unvalued, one_by, gives_carried}
 use Rattle.nu_carries.proofs.Small.{within_off}
 use Rattle.nu_carries.proofs.Control.{branch_by}
 use Rattle.nu_homes.proofs.Functions.{Extends}
-use Rattle.nu_homes.specs.Names.{of_temp}
 use Rattle.nu_guards.specs.Finish.{guarded, none, exits_block, others_block, leaving_block, with_block}
 use Rattle.nu_guards.proofs.Steps.{passing, value_then, do_then}
 use Rattle.nu_guards.proofs.Again.{again_by}

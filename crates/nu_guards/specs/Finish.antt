@@ -6,10 +6,9 @@ use Rattle.node_tree.specs.declared.node.Argument.{Argument}
 use Rattle.node_tree.specs.declared.node.Argument.TheVariants as argument
 use Rattle.node_tree.specs.declared.node.Operand.{Operand}
 use Rattle.node_tree.specs.declared.node.Operand.TheVariants as operand
+use Rattle.node_tree.specs.Blocks.{alone, flag, of_temp}
 use Rattle.node_tree.specs.Blocks as tree
-use Rattle.nu_carries.specs.Laws.{alone}
-use Rattle.nu_homes.specs.Names.{of_temp}
-use Rattle.node_redirect.specs.Redirect.{flag, redirect}
+use Rattle.node_redirect.specs.Redirect.{redirect}
 
 -- a block in a loop, which each of its ends leaves, but for a stop
 abbrev pub guarded_block : ℕ → tree.Block → tree.Block

@@ -3,12 +3,13 @@ use Rattle.std.specs.Prelude.{◌⊎◌, ℕ, ◌+◌, ◌<◌, ◌≤◌, List,
 use Rattle.op_forms.specs.declared.constant.Const.TheVariants as const
 use Rattle.node_tree.specs.declared.node.Operand.{Operand}
 use Rattle.node_tree.specs.declared.node.Operand.TheVariants as operand
+use Rattle.node_tree.specs.Blocks.{alone}
 use Rattle.node_tree.specs.Blocks as tree
 use Rattle.py_meaning.specs.Syntax as syntax
 use Rattle.py_meaning.specs.Statements.{assign_all}
 use Rattle.nu_carries.specs.Frames.{Homes, behind}
 use Rattle.nu_carries.specs.Carries.{Carrier, CarriesExpression, CarriesTarget, CarriesGiven, CarriesStatement, CarriesBlock, CarriesAll}
-use Rattle.nu_carries.specs.Laws.{alone, Within}
+use Rattle.nu_carries.specs.Laws.{Within}
 use Rattle.nu_guards.specs.Raises.{raise_block, assert_block}
 use Rattle.nu_guards.specs.Loops.{for_block}
 use Rattle.nu_homes.specs.Names.{CarriesDeletion}

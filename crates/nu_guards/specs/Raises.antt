@@ -5,10 +5,10 @@ use Rattle.node_tree.specs.declared.node.Argument.{Argument}
 use Rattle.node_tree.specs.declared.node.Argument.TheVariants as argument
 use Rattle.node_tree.specs.declared.node.Operand.{Operand}
 use Rattle.node_tree.specs.declared.node.Operand.TheVariants as operand
+use Rattle.node_tree.specs.Blocks.{alone, of_temp}
 use Rattle.node_tree.specs.Blocks as tree
 use Rattle.nu_carries.specs.Carries.{Carrier, joined}
-use Rattle.nu_carries.specs.Laws.{alone, if_block}
-use Rattle.nu_homes.specs.Names.{of_temp}
+use Rattle.nu_carries.specs.Laws.{if_block}
 
 -- what an operand holds is raised, by two temporaries from this one on
 abbrev pub raise_block : ℕ → ℕ → Operand → tree.Block

@@ -6,6 +6,7 @@ use Rattle.op_forms.specs.declared.op.Op.TheVariants as op
 use Rattle.node_tree.specs.declared.node.Argument.TheVariants as argument
 use Rattle.node_tree.specs.declared.node.Operand.{Operand}
 use Rattle.node_tree.specs.declared.node.Operand.TheVariants as operand
+use Rattle.node_tree.specs.Blocks.{alone, of_temp}
 use Rattle.node_tree.specs.Blocks as tree
 use Rattle.node_tree.specs.Nodes as nodes
 use Rattle.py_meaning.specs.Syntax as syntax
@@ -13,8 +14,6 @@ use Rattle.py_meaning.specs.Frames as python
 use Rattle.py_meaning.specs.Statements.{block, handler, caught}
 use Rattle.nu_carries.specs.Frames.{Homes, behind, Facts, Outside}
 use Rattle.nu_carries.specs.Carries.{Setting, source, target, Carried, Knows}
-use Rattle.nu_carries.specs.Laws.{alone}
-use Rattle.nu_homes.specs.Names.{of_temp}
 use Rattle.nu_guards.specs.Loops.{attempt}
 
 -- by two temporaries: of the exception, and whether there was one

@@ -1,4 +1,6 @@
 //! When blocks of primitive statements carry `for`, `raise`, `assert`, `try`, `finally` and `with`.
+//!
+//! The laws serve the reformulation of scripts: where the blocks that it builds are these, their runs are those of the script.
 #![tactic(auto)]
 
 ghost use Rattle.nu_guards.specs.Laws.{CarriesFinishes, CarriesFor, CarriesRaises, CarriesTries};

@@ -5,6 +5,7 @@ use Rattle.std.proofs.lemmas.Bool.{leb-true}
 use Rattle.std.proofs.lemmas.List.{length-replicate}
 use Rattle.nu_value.specs.declared.value.Value.{Value}
 use Rattle.nu_value.specs.declared.value.Value.TheVariants as value
+use Rattle.nu_calls.specs.Calls.{of_kind}
 use Rattle.node_tree.specs.declared.script.NodeCode.{NodeCode}
 use Rattle.node_tree.specs.Nodes as nodes
 use Rattle.node_tree.specs.Run as node_run
@@ -80,29 +81,32 @@ module _ (code : ℕ) (given cells : List Value) where
           (λ (q : (h.params ≤ place) × (local_at h place ≡ h.frees + h.owns + place)). let a = q.0 in absurd (omega arith))
           (local_cases h place)
 
-  begin_alike : (h : Homes) → HaveRoom h → (a b : Bool) → nat_le h.params (length given) ≡ a → nat_le h.frees (length cells) ≡ b → BegunAs h (if a && b then Some (source_frame h.params h.locals h.frees) else None) (if a && b then Some (target_frame h.params h.frees) else None)
-  begin_alike h room true true ea eb = frames_alike h room (leb-true h.params (length given) ea) (leb-true h.frees (length cells) eb)
-  begin_alike h room true false ea eb = tt
-  begin_alike h room false true ea eb = tt
-  begin_alike h room false false ea eb = tt
+  begin_alike : (h : Homes) → HaveRoom h → (is a b : Bool) → nat_le h.params (length given) ≡ a → nat_le h.frees (length cells) ≡ b → BegunAs h (if is && (a && b) then Some (source_frame h.params h.locals h.frees) else None) (if is && (a && b) then Some (target_frame h.params h.frees) else None)
+  begin_alike h room false a b ea eb = tt
+  begin_alike h room true true true ea eb = frames_alike h room (leb-true h.params (length given) ea) (leb-true h.frees (length cells) eb)
+  begin_alike h room true true false ea eb = tt
+  begin_alike h room true false true ea eb = tt
+  begin_alike h room true false false ea eb = tt
 
-  abbrev source_begun : ℕ → ℕ → ℕ → Option python.Frame
-  source_begun params locals frees = if nat_le params (length given) && nat_le frees (length cells) then Some (source_frame params locals frees) else None
+  abbrev source_begun : Bool → ℕ → ℕ → ℕ → Option python.Frame
+  source_begun is params locals frees = if is && (nat_le params (length given) && nat_le frees (length cells)) then Some (source_frame params locals frees) else None
 
-  abbrev target_begun : ℕ → ℕ → Option nodes.Frame
-  target_begun params frees = if nat_le params (length given) && nat_le frees (length cells) then Some (target_frame params frees) else None
+  abbrev target_begun : Bool → ℕ → ℕ → Option nodes.Frame
+  target_begun is params frees = if is && (nat_le params (length given) && nat_le frees (length cells)) then Some (target_frame params frees) else None
 
-  codes_alike : (h : Homes) (c : syntax.Code) (k : NodeCode) → HaveRoom h → HaveHomes h c k → BegunAs h (bodies.begun_frame code given cells (Some c)) (node_run.begun_frame code given cells (Some k))
-  codes_alike h c k room homes =
-      subst (λ n. BegunAs h (source_begun n c.locals c.frees) (target_begun (length k.params) k.free)) (sym homes.params)
-      (subst (λ n. BegunAs h (source_begun h.params n c.frees) (target_begun (length k.params) k.free)) (sym homes.locals)
-      (subst (λ n. BegunAs h (source_begun h.params h.locals n) (target_begun (length k.params) k.free)) (sym homes.frees)
-      (subst (λ n. BegunAs h (source_begun h.params h.locals h.frees) (target_begun n k.free)) (sym homes.given)
-      (subst (λ n. BegunAs h (source_begun h.params h.locals h.frees) (target_begun h.params n)) (sym homes.cells)
-      (begin_alike h room (nat_le h.params (length given)) (nat_le h.frees (length cells)) refl refl)))))
+  codes_alike : (kind : Bool) (h : Homes) (c : syntax.Code) (k : NodeCode) → HaveRoom h → HaveHomes h c k → BegunAs h (bodies.begun_frame kind code given cells (Some c)) (node_run.begun_frame kind code given cells (Some k))
+  codes_alike kind h c k room homes =
+      let is : Bool = of_kind kind c.header.generator in
+      subst (λ g. BegunAs h (source_begun is (length c.header.params) c.locals c.frees) (target_begun (of_kind kind g) (length k.params) k.free)) (sym homes.kind)
+      (subst (λ n. BegunAs h (source_begun is n c.locals c.frees) (target_begun is (length k.params) k.free)) (sym homes.params)
+      (subst (λ n. BegunAs h (source_begun is h.params n c.frees) (target_begun is (length k.params) k.free)) (sym homes.locals)
+      (subst (λ n. BegunAs h (source_begun is h.params h.locals n) (target_begun is (length k.params) k.free)) (sym homes.frees)
+      (subst (λ n. BegunAs h (source_begun is h.params h.locals h.frees) (target_begun is n k.free)) (sym homes.given)
+      (subst (λ n. BegunAs h (source_begun is h.params h.locals h.frees) (target_begun is h.params n)) (sym homes.cells)
+      (begin_alike h room is (nat_le h.params (length given)) (nat_le h.frees (length cells)) refl refl))))))
 
-pub begins_alike : (z : Setting) (code : ℕ) (c : syntax.Code) (k : NodeCode) → slice_get z.codes code ≡ Some c → slice_get z.script.codes code ≡ Some k → HaveRoom (z.homes code) → HaveHomes (z.homes code) c k → (given cells : List Value) → BegunAs (z.homes code) ((source z).frame code given cells) ((target z).frame code given cells)
-begins_alike z code c k ec ek room homes given cells =
-    subst (λ o. BegunAs (z.homes code) (bodies.begun_frame code given cells o) ((target z).frame code given cells)) (sym ec)
-    (subst (λ o. BegunAs (z.homes code) (bodies.begun_frame code given cells (Some c)) (node_run.begun_frame code given cells o)) (sym ek)
-    (codes_alike code given cells (z.homes code) c k room homes))
+pub begins_alike : (z : Setting) (code : ℕ) (c : syntax.Code) (k : NodeCode) → slice_get z.codes code ≡ Some c → slice_get z.script.codes code ≡ Some k → HaveRoom (z.homes code) → HaveHomes (z.homes code) c k → (kind : Bool) (given cells : List Value) → BegunAs (z.homes code) ((source z).frame kind code given cells) ((target z).frame kind code given cells)
+begins_alike z code c k ec ek room homes kind given cells =
+    subst (λ o. BegunAs (z.homes code) (bodies.begun_frame kind code given cells o) ((target z).frame kind code given cells)) (sym ec)
+    (subst (λ o. BegunAs (z.homes code) (bodies.begun_frame kind code given cells (Some c)) (node_run.begun_frame kind code given cells o)) (sym ek)
+    (codes_alike code given cells kind (z.homes code) c k room homes))

@@ -12,6 +12,7 @@ use Rattle.nu_calls.specs.Calls.{Pause, state_of, operate}
 use Rattle.node_tree.specs.declared.node.Argument.{Argument}
 use Rattle.node_tree.specs.declared.node.Operand.{Operand}
 use Rattle.node_tree.specs.declared.node.Operand.TheVariants as operand
+use Rattle.node_tree.specs.Blocks.{alone, of_temp}
 use Rattle.node_tree.specs.Blocks as tree
 use Rattle.node_tree.specs.Nodes as nodes
 use Rattle.node_tree.specs.Tree.{code_block}
@@ -20,13 +21,11 @@ use Rattle.py_meaning.specs.Frames as python
 use Rattle.py_meaning.specs.Bodies as bodies
 use Rattle.nu_carries.specs.Frames.{Homes, HaveRoom, local_at, own_at, behind, begun, Holds, Facts, Fits}
 use Rattle.nu_carries.specs.Carries.{Setting, source, target, S, T, Tables, AroundAs, Outer, Correspond, EndsAs, BodyEnds, CarriedBy, CarriesExpression, CarriesBlock, CarriesCode}
-use Rattle.nu_carries.specs.Laws.{alone}
 use Rattle.nu_carries.proofs.Facts.{put_same, written, refit}
 use Rattle.nu_carries.proofs.Carry.{States, AllEnds, Settles, by_map, none_by, act_by, then_by, tidy_by, right_by, left_by}
 use Rattle.nu_carries.proofs.Sequence.{reads_by}
 use Rattle.nu_carries.proofs.Statements.{return_carried}
 use Rattle.nu_carries.proofs.Codes.{body_ends}
-use Rattle.nu_homes.specs.Names.{of_temp}
 use Rattle.nu_homes.specs.Begun.{unset_block, filled_block, cells_block, begun_block, HoldParams, AreWhole, CarriesBody}
 use Rattle.nu_homes.proofs.Made.{Results, operation_from, line_from, free_written}
 use Rattle.nu_homes.proofs.Stages.{at_stage, cell_free, unset_filled, cell_made}

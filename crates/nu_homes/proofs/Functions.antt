@@ -6,6 +6,7 @@ use Rattle.op_forms.specs.declared.constant.Const.TheVariants as const
 use Rattle.op_forms.specs.declared.op.Op.TheVariants as op
 use Rattle.node_tree.specs.declared.node.Argument.TheVariants as argument
 use Rattle.node_tree.specs.declared.node.Operand.TheVariants as operand
+use Rattle.node_tree.specs.Blocks.{alone, of_temp}
 use Rattle.node_tree.specs.Blocks as tree
 use Rattle.node_tree.specs.Nodes as nodes
 use Rattle.py_meaning.specs.Syntax as syntax
@@ -13,11 +14,9 @@ use Rattle.py_meaning.specs.Frames as python
 use Rattle.py_meaning.specs.Expressions.{each, named, put_all}
 use Rattle.nu_carries.specs.Frames.{Homes, HaveRoom, behind, Holds, Facts, Fits, FramesAs, Outside}
 use Rattle.nu_carries.specs.Carries.{Setting, source, target, Carried, Knows, Carrier, CarriesAll, CarriesExpression, joined}
-use Rattle.nu_carries.specs.Laws.{alone}
 use Rattle.nu_carries.proofs.Facts.{outside_off, outside_less, within_below, forget}
 use Rattle.nu_carries.proofs.Sequence.{weaken, more_leaves, seq_carried, then_carried, one_carried}
 use Rattle.nu_carries.proofs.Operations.{operate_carried, do_carried}
-use Rattle.nu_homes.specs.Names.{of_temp}
 use Rattle.nu_homes.specs.Functions.{HasCell, HasCells, cell_at, CarriesNamed, put_block, put_end, function_form, function_block}
 use Rattle.nu_homes.proofs.Seats.{own_seat, free_seat}
 

@@ -11,19 +11,19 @@ use Rattle.nu_calls.specs.Calls.{state_of, operate}
 use Rattle.node_tree.specs.declared.node.Argument.TheVariants as argument
 use Rattle.node_tree.specs.declared.node.Operand.{Operand}
 use Rattle.node_tree.specs.declared.node.Operand.TheVariants as operand
+use Rattle.node_tree.specs.Blocks.{alone, puts, of_temp}
 use Rattle.node_tree.specs.Blocks as tree
 use Rattle.node_tree.specs.Nodes as nodes
 use Rattle.py_meaning.specs.Syntax as syntax
 use Rattle.py_meaning.specs.Frames as python
 use Rattle.nu_carries.specs.Frames.{Homes, HaveRoom, local_at, own_at, free_at, behind, Holds, Facts, Outside}
 use Rattle.nu_carries.specs.Carries.{Setting, source, target, Correspond, EndsAs, Carried, Knows, CarriesExpression, CarriesTarget, CarriesStatement}
-use Rattle.nu_carries.specs.Laws.{alone}
 use Rattle.nu_carries.proofs.Facts.{Off, outside_off, outside_home, outside_less, local_below, refit}
 use Rattle.nu_carries.proofs.Homes.{local_bound}
 use Rattle.nu_carries.proofs.Carry.{act_by}
 use Rattle.nu_carries.proofs.Sequence.{weaken, more_leaves, seq_carried, then_carried, one_carried, gives_carried}
 use Rattle.nu_carries.proofs.Operations.{operate_carried}
-use Rattle.nu_homes.specs.Names.{HasPlace, of_temp, reads, puts, stores, unbinds, CarriesDeletion, CarriesDeletions}
+use Rattle.nu_homes.specs.Names.{HasPlace, reads, stores, unbinds, CarriesDeletion, CarriesDeletions}
 use Rattle.nu_homes.proofs.Seats.{Seat, local_seat, own_seat, free_seat, seat_carried}
 
 module _ (z : Setting) (h : Homes) (to line : ℕ) (room : HaveRoom h) (above : behind h ≤ to) where

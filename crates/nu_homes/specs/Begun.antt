@@ -2,13 +2,13 @@
 use Rattle.std.specs.Prelude.{◌≡◌, ℕ, zero, suc, ◌+◌, ◌<◌, List, [], ◌∷◌, length, Option, Some, None}
 use Rattle.op_forms.specs.declared.op.Op.TheVariants as op
 use Rattle.node_tree.specs.declared.script.NodeCode.{NodeCode}
+use Rattle.node_tree.specs.Blocks.{of_temp}
 use Rattle.node_tree.specs.Blocks as tree
 use Rattle.node_tree.specs.Nodes as nodes
 use Rattle.py_meaning.specs.Syntax as syntax
 use Rattle.py_meaning.specs.Bodies as bodies
 use Rattle.nu_carries.specs.Frames.{Homes, local_at, own_at}
 use Rattle.nu_carries.specs.Carries.{Setting, source, target, Correspond, BodyEnds, CarriedBy}
-use Rattle.nu_homes.specs.Names.{of_temp}
 
 -- so many local variables, from this one on, are Unset, which scripts see alone
 abbrev pub unset_block : Homes → ℕ → ℕ → tree.Block → tree.Block
@@ -50,6 +50,7 @@ pub record HaveHomes (h : Homes) (c : syntax.Code) (k : NodeCode) : Type 0 where
   pub frees : c.frees ≡ h.frees
   pub cells : k.free ≡ h.frees
   pub locals : c.locals ≡ h.locals
+  pub kind : k.generator ≡ c.header.generator
 
 -- the body of a code is carried, from where its local variables and cells have their temporaries
 abbrev pub CarriesBody : Setting → Homes → syntax.Body → tree.Block → Type 0

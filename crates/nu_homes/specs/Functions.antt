@@ -4,12 +4,11 @@ use Rattle.op_forms.specs.declared.constant.Const.TheVariants as const
 use Rattle.op_forms.specs.declared.op.Op.TheVariants as op
 use Rattle.node_tree.specs.declared.node.Argument.TheVariants as argument
 use Rattle.node_tree.specs.declared.node.Operand.TheVariants as operand
+use Rattle.node_tree.specs.Blocks.{alone, of_temp}
 use Rattle.node_tree.specs.Blocks as tree
 use Rattle.py_meaning.specs.Syntax as syntax
 use Rattle.nu_carries.specs.Frames.{Homes, own_at, free_at, behind}
 use Rattle.nu_carries.specs.Carries.{Carrier, CarriesExpression, joined}
-use Rattle.nu_carries.specs.Laws.{alone}
-use Rattle.nu_homes.specs.Names.{of_temp}
 
 -- a cell that an inner function gets has its temporary
 abbrev pub HasCell : Homes → syntax.CellPlace → Type 0

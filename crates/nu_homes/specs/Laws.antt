@@ -1,15 +1,15 @@
 -- What blocks carry of names, of codes and of functions.
-use Rattle.std.specs.Prelude.{◌≡◌, ℕ, ◌+◌, ◌≤◌, List, Option, Some, None, slice_get}
+use Rattle.std.specs.Prelude.{◌≡◌, ℕ, Bool, ◌+◌, ◌≤◌, List, Option, Some, None, slice_get}
 use Rattle.nu_value.specs.declared.value.Value.{Value}
 use Rattle.node_tree.specs.declared.node.Operand.{Operand}
 use Rattle.node_tree.specs.declared.node.Operand.TheVariants as operand
 use Rattle.node_tree.specs.declared.script.NodeCode.{NodeCode}
+use Rattle.node_tree.specs.Blocks.{alone}
 use Rattle.node_tree.specs.Blocks as tree
 use Rattle.node_tree.specs.Tree.{code_block}
 use Rattle.py_meaning.specs.Syntax as syntax
 use Rattle.nu_carries.specs.Frames.{Homes, HaveRoom, behind}
 use Rattle.nu_carries.specs.Carries.{Setting, source, target, BegunAs, Carrier, CarriesExpression, CarriesTarget, CarriesStatement, CarriesBlock, CarriesAll, CarriesCode}
-use Rattle.nu_carries.specs.Laws.{alone}
 use Rattle.nu_homes.specs.Names.{HasPlace, reads, stores, unbinds, CarriesDeletion, CarriesDeletions}
 use Rattle.nu_homes.specs.Begun.{begun_block, AreWhole, CarriesBody, HaveHomes}
 use Rattle.nu_homes.specs.Functions.{HasCells, CarriesNamed, put_end, function_block}
@@ -32,7 +32,7 @@ pub record CarriesCodes : Type 0 where
   -- a code is carried where its body is
   pub begun : (z : Setting) (code t more : ℕ) (c : syntax.Code) (b : tree.Block) → slice_get z.codes code ≡ Some c → HaveRoom (z.homes code) → AreWhole (z.homes code) more c.owns → behind (z.homes code) ≤ t → code_block z.script.codes code ≡ begun_block (z.homes code) c.header.line t more c.owns b → CarriesBody z (z.homes code) c.body b → CarriesCode z code
   -- codes of any parameters, local variables and cells of enclosing functions begin in both alike
-  pub begins : (z : Setting) (code : ℕ) (c : syntax.Code) (k : NodeCode) → slice_get z.codes code ≡ Some c → slice_get z.script.codes code ≡ Some k → HaveRoom (z.homes code) → HaveHomes (z.homes code) c k → (given cells : List Value) → BegunAs (z.homes code) ((source z).frame code given cells) ((target z).frame code given cells)
+  pub begins : (z : Setting) (code : ℕ) (c : syntax.Code) (k : NodeCode) → slice_get z.codes code ≡ Some c → slice_get z.script.codes code ≡ Some k → HaveRoom (z.homes code) → HaveHomes (z.homes code) c k → (kind : Bool) (given cells : List Value) → BegunAs (z.homes code) ((source z).frame kind code given cells) ((target z).frame kind code given cells)
 
 -- functions with defaults
 abbrev pub CarriesFunctions : Type 0

@@ -1,10 +1,9 @@
 -- The primitive statements that read, bind and unbind names, by their homes.
 use Rattle.std.specs.Prelude.{ℕ, ◌<◌, ◌≤◌, [], ◌∷◌}
 use Rattle.op_forms.specs.declared.op.Op.TheVariants as op
-use Rattle.node_tree.specs.declared.node.Argument.{Argument}
 use Rattle.node_tree.specs.declared.node.Argument.TheVariants as argument
 use Rattle.node_tree.specs.declared.node.Operand.{Operand}
-use Rattle.node_tree.specs.declared.node.Operand.TheVariants as operand
+use Rattle.node_tree.specs.Blocks.{alone, puts, of_temp}
 use Rattle.node_tree.specs.Blocks as tree
 use Rattle.node_tree.specs.Nodes as nodes
 use Rattle.py_meaning.specs.Syntax as syntax
@@ -12,7 +11,6 @@ use Rattle.py_meaning.specs.Statements.{delete, delete_each}
 use Rattle.py_meaning.specs.Frames as python
 use Rattle.nu_carries.specs.Frames.{Homes, local_at, own_at, free_at, behind, Facts, Outside}
 use Rattle.nu_carries.specs.Carries.{Setting, source, target, Carried}
-use Rattle.nu_carries.specs.Laws.{alone}
 
 -- the name has its temporary, if it is to have one; the names of a class are the first parameter of its code
 abbrev pub HasPlace : Homes → syntax.Home → Type 0
@@ -22,9 +20,6 @@ HasPlace h (syntax.Free place name) = place < h.frees
 HasPlace h (syntax.Module name) = Unit {0}
 HasPlace h (syntax.InClass name) = 0 < h.filled
 
-abbrev pub of_temp : ℕ → Argument
-of_temp t = argument.Value (operand.Temp t)
-
 -- a name is read
 abbrev pub reads : Homes → ℕ → ℕ → syntax.Home → tree.Form
 reads h to line (syntax.Local place name) = tree.Do to line op.Local (of_temp (local_at h place) ∷ argument.Name name ∷ [])
@@ -32,11 +27,6 @@ reads h to line (syntax.Own place name) = tree.Do to line op.CellGet (of_temp (o
 reads h to line (syntax.Free place name) = tree.Do to line op.FreeGet (of_temp (free_at h place) ∷ argument.Name name ∷ [])
 reads h to line (syntax.Module name) = tree.Do to line op.Global (argument.Name name ∷ [])
 reads h to line (syntax.InClass name) = tree.Do to line op.SpaceGet (of_temp (local_at h 0) ∷ argument.Name name ∷ [])
-
--- a temporary gets what an operand holds
-abbrev pub puts : ℕ → Operand → tree.Form
-puts to (operand.Temp t) = tree.Copy to t
-puts to (operand.Const c) = tree.Constant to c
 
 -- a name is bound to what an operand holds
 abbrev pub stores : Homes → ℕ → ℕ → syntax.Home → Operand → tree.Form

@@ -1,4 +1,6 @@
 //! When blocks of primitive statements carry names at every home, codes that have cells and local variables, and functions.
+//!
+//! The laws serve the reformulation of scripts: where the blocks that it builds are these, their runs are those of the script.
 #![tactic(auto)]
 
 ghost use Rattle.nu_homes.specs.Laws.{CarriesCodes, CarriesFunctions, CarriesNames};

@@ -8,6 +8,7 @@ use Rattle.nu_calls.specs.Calls.{operate}
 use Rattle.node_tree.specs.declared.node.Argument.TheVariants as argument
 use Rattle.node_tree.specs.declared.node.Operand.{Operand}
 use Rattle.node_tree.specs.declared.node.Operand.TheVariants as operand
+use Rattle.node_tree.specs.Blocks.{of_temp}
 use Rattle.node_tree.specs.Blocks as tree
 use Rattle.node_tree.specs.Nodes as nodes
 use Rattle.py_meaning.specs.Syntax as syntax
@@ -20,7 +21,7 @@ use Rattle.nu_carries.proofs.Facts.{Off, outside_off, outside_less}
 use Rattle.nu_carries.proofs.Carry.{AllEnds}
 use Rattle.nu_carries.proofs.Sequence.{Passes, lessen, more_leaves, then_to, unvalued, one_by}
 use Rattle.nu_carries.proofs.Small.{within_off}
-use Rattle.nu_homes.specs.Names.{HasPlace, of_temp}
+use Rattle.nu_homes.specs.Names.{HasPlace}
 use Rattle.nu_homes.proofs.Names.{loads, stored_at}
 use Rattle.nu_homes.proofs.Functions.{Extends}
 use Rattle.nu_guards.proofs.Steps.{passed, passing, value_then, do_then, do_last}

@@ -7,6 +7,7 @@ use Rattle.nu_calls.specs.Calls.{operate}
 use Rattle.node_tree.specs.declared.node.Argument.TheVariants as argument
 use Rattle.node_tree.specs.declared.node.Operand.{Operand}
 use Rattle.node_tree.specs.declared.node.Operand.TheVariants as operand
+use Rattle.node_tree.specs.Blocks.{of_temp}
 use Rattle.node_tree.specs.Blocks as tree
 use Rattle.node_tree.specs.Nodes as nodes
 use Rattle.py_meaning.specs.Syntax as syntax
@@ -16,7 +17,6 @@ use Rattle.nu_carries.specs.Frames.{Homes, behind, Holds, Facts, Outside}
 use Rattle.nu_carries.specs.Carries.{Setting, source, target, EndsAs, Carried, Knows}
 use Rattle.nu_carries.proofs.Facts.{outside_off, outside_less}
 use Rattle.nu_carries.proofs.Sequence.{lessen, seq_carried, gives_carried}
-use Rattle.nu_homes.specs.Names.{of_temp}
 use Rattle.nu_guards.proofs.Steps.{passing, do_then}
 use Rattle.nu_targets.specs.Places.{CarriesPlace, Taker, CarriesItem, CarriesItems}
 use Rattle.nu_targets.specs.Targets.{numeral, items_block, each_block, starred_block}

@@ -6,11 +6,11 @@ use Rattle.op_forms.specs.declared.op.Op.TheVariants as op
 use Rattle.node_tree.specs.declared.node.Argument.TheVariants as argument
 use Rattle.node_tree.specs.declared.node.Operand.{Operand}
 use Rattle.node_tree.specs.declared.node.Operand.TheVariants as operand
+use Rattle.node_tree.specs.Blocks.{alone, of_temp}
 use Rattle.node_tree.specs.Blocks as tree
 use Rattle.py_meaning.specs.Syntax as syntax
 use Rattle.nu_carries.specs.Frames.{Homes}
-use Rattle.nu_carries.specs.Laws.{alone}
-use Rattle.nu_homes.specs.Names.{of_temp, reads, stores}
+use Rattle.nu_homes.specs.Names.{reads, stores}
 
 -- the right side, in b, and the operation on it and on the old value, which is in t
 abbrev pub operated_block : ℕ → ℕ → Op → tree.Block → Operand → tree.Block → tree.Block

@@ -3,8 +3,8 @@ use Rattle.std.specs.Prelude.{ℕ, List, [], ◌∷◌}
 use Rattle.op_forms.specs.declared.op.Op.TheVariants as op
 use Rattle.node_tree.specs.declared.node.Argument.TheVariants as argument
 use Rattle.node_tree.specs.declared.node.Operand.{Operand}
+use Rattle.node_tree.specs.Blocks.{alone}
 use Rattle.node_tree.specs.Blocks as tree
-use Rattle.nu_carries.specs.Laws.{alone}
 
 abbrev pub attribute_deleted : ℕ → ℕ → tree.Block → Operand → List ℕ → tree.Block
 attribute_deleted line to xb a name = tree.append xb (alone (tree.Do to line op.DelAttr (argument.Value a ∷ argument.Name name ∷ [])))

@@ -6,9 +6,8 @@ use Rattle.node_tree.specs.declared.node.Argument.{Argument}
 use Rattle.node_tree.specs.declared.node.Argument.TheVariants as argument
 use Rattle.node_tree.specs.declared.node.Operand.{Operand}
 use Rattle.node_tree.specs.declared.node.Operand.TheVariants as operand
+use Rattle.node_tree.specs.Blocks.{alone, of_temp}
 use Rattle.node_tree.specs.Blocks as tree
-use Rattle.nu_carries.specs.Laws.{alone}
-use Rattle.nu_homes.specs.Names.{of_temp}
 use Rattle.nu_targets.specs.Places.{Taker}
 
 -- the part of an attribute, in a, and the value, in o

@@ -1,5 +1,7 @@
 //! When blocks of primitive statements carry assignments to attributes, to indices and to several targets, augmented assignments and
 //! deletions.
+//!
+//! The laws serve the reformulation of scripts: where the blocks that it builds are these, their runs are those of the script.
 #![tactic(auto)]
 
 ghost use Rattle.nu_targets.specs.Laws.{CarriesTargetLists, CarriesAugments, CarriesDeletes, CarriesStores, CarriesUnpacking};

@@ -1,4 +1,4 @@
-//! Names in tables, and the table of built-in names.
+//! Names in tables: the built-in names, and the natives of the built-in text.
 
 ghost use Rattle.std.specs.Prelude.{◌≡◌, map};
 ghost use Rattle.nu_text.specs.Names as spec;
@@ -62,6 +62,26 @@ pub const BUILT_IN_NAMES: [&str; 54] = [
     "reversed",
 ];
 
+/// The native functions that only the built-in text may name: what its functions are written with. They have no place in
+/// the reference.
+pub const TEXT_NATIVES: [&str; 15] = [
+    "_nu_write",
+    "_nu_line",
+    "_nu_kind",
+    "_nu_text",
+    "_nu_quote",
+    "_nu_special",
+    "_nu_args",
+    "_nu_order",
+    "_nu_next",
+    "_nu_iter",
+    "_nu_getattr",
+    "_nu_exc",
+    "_nu_nextable",
+    "_nu_resume",
+    "_nu_unbuilt",
+];
+
 /// Whether the table has the name.
 pub fn is_among(table: &[&str], name: &str) -> bool
     ensures { result ≡ spec.is_among (map (λ entry. entry.now) table.now) name.now }
@@ -80,4 +100,12 @@ pub fn is_built_in_name(name: &str) -> bool
     ensures { result ≡ spec.is_among spec.built_in_names name.now }
 {
     is_among(&BUILT_IN_NAMES, name)
+}
+
+/// Whether it is a native of the built-in text alone.
+#[tactic(auto, unfolding(crate::specs::Names::text_natives))]
+pub fn is_text_native(name: &str) -> bool
+    ensures { result ≡ spec.is_among spec.text_natives name.now }
+{
+    is_among(&TEXT_NATIVES, name)
 }

@@ -6,3 +6,13 @@ pub mod Lending
 pub mod Ranges
 pub mod Same
 pub mod Laws
+pub mod Atoms
+pub mod Parts
+pub mod AtomLaws
+pub mod Triples
+pub mod Keyed
+pub mod Seen
+pub mod Held
+pub mod Halves
+pub mod Links
+pub mod Classes

@@ -1,7 +1,7 @@
 //! Names and their values.
 
 ghost use Rattle.std.specs.Prelude.{◌≡◌, ◌<◌, OnOk, OnErr, [], length, slice_get, option_copied, option_map};
-ghost use Rattle.nu_value.specs.Names.{place_of, value_at, with_name, with_value, without_name};
+ghost use Rattle.nu_value.specs.Names.{AreDistinct, is_named, place_of, value_at, with_name, with_value, without_name};
 
 use crate::value::Value;
 use nu_text::RcStr;
@@ -20,7 +20,11 @@ impl Model for Names {
 
     ghost Value = { List (List ℕ × Element) };
 
+    ghost use Rattle.nu_value.specs.Names.{AreDistinct};
+
     ghost view = { λ t. t.list.items };
+
+    ghost invariant = { λ t. AreDistinct t.list.items };
 }
 
 /// The place of a name, or the length.
@@ -33,6 +37,54 @@ fn find(list: &[(RcStr, Value)], name: &str) -> usize
         }
     }
     list.len()
+}
+
+/// Whether the name at a place is this one.
+#[inline]
+fn stands(list: &[(RcStr, Value)], place: usize, name: &str) -> bool
+    ensures { result ≡ is_named (slice_get list.now place) name.now }
+{
+    match list.get(place) {
+        Some(pair) => pair.0.as_str() == name,
+        None => false,
+    }
+}
+
+/// Gives a name its value: where the name stands, or else at the end.
+fn put(list: &mut Vec<(RcStr, Value)>, name: RcStr, value: Value) -> Result<(), AllocError>
+    ensures ok { OnOk result (list.new.items ≡ with_name list.old.items name value) }
+    ensures err { OnErr result (list.new.items ≡ list.old.items) }
+{
+    let place = find(list, name.as_str());
+    if place < list.len() {
+        list[place] = (name, value);
+    } else {
+        list.push((name, value))?;
+    }
+    Ok(())
+}
+
+/// Gives the name that stands at a place a value.
+#[inline]
+fn put_at(list: &mut Vec<(RcStr, Value)>, place: usize, value: Value)
+    requires { place < length list.old.items }
+    ensures { list.new.items ≡ with_value list.old.items place value }
+{
+    list[place].1 = value;
+}
+
+/// Takes out a name with its value.
+fn take_name(list: &mut Vec<(RcStr, Value)>, name: &str) -> Option<Value>
+    ensures value { result ≡ value_at list.old.items name.now }
+    ensures rest { list.new.items ≡ without_name list.old.items name.now }
+{
+    let place = find(list, name);
+    if place < list.len() {
+        let (_, value) = list.remove(place);
+        Some(value)
+    } else {
+        None
+    }
 }
 
 impl Names {
@@ -50,6 +102,14 @@ impl Names {
         self.list.len()
     }
 
+    #[inline]
+    pub fn as_slice(&self) -> &[(RcStr, Value)]
+        ensures items { result.now ≡ self.now }
+        ensures distinct { AreDistinct self.now }
+    {
+        self.list.as_slice()
+    }
+
     /// The name at this place and its value; None where the place isn't below the length.
     pub fn at(&self, place: usize) -> Option<(&RcStr, &Value)>
         ensures { option_map (λ p. (p.0.now, p.1.now)) result ≡ slice_get self.now place }
@@ -57,6 +117,18 @@ impl Names {
         match self.list.get(place) {
             Some(pair) => Some((&pair.0, &pair.1)),
             None => None,
+        }
+    }
+
+    /// The place of a name, or the length. It is found at once where it's the guess.
+    #[inline]
+    pub fn find_near(&self, guess: usize, name: &str) -> usize
+        ensures { result ≡ place_of self.now name.now }
+    {
+        if stands(&self.list, guess, name) {
+            guess
+        } else {
+            find(&self.list, name)
         }
     }
 
@@ -75,13 +147,7 @@ impl Names {
         ensures ok { OnOk result (self.new ≡ with_name self.old name value) }
         ensures err { OnErr result (self.new ≡ self.old) }
     {
-        let place = find(&self.list, name.as_str());
-        if place < self.list.len() {
-            self.list[place] = (name, value);
-        } else {
-            self.list.push((name, value))?;
-        }
-        Ok(())
+        put(&mut self.list, name, value)
     }
 
     /// Gives the name that stands at this place a value.
@@ -90,7 +156,7 @@ impl Names {
         requires { place < length self.old }
         ensures { self.new ≡ with_value self.old place value }
     {
-        self.list[place].1 = value;
+        put_at(&mut self.list, place, value);
     }
 
     /// Takes out a name with its value; None where no element has it.
@@ -98,12 +164,6 @@ impl Names {
         ensures value { result ≡ value_at self.old name.now }
         ensures rest { self.new ≡ without_name self.old name.now }
     {
-        let place = find(&self.list, name);
-        if place < self.list.len() {
-            let (_, value) = self.list.remove(place);
-            Some(value)
-        } else {
-            None
-        }
+        take_name(&mut self.list, name)
     }
 }

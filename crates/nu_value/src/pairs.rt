@@ -1,10 +1,15 @@
 //! Pairs of a dict.
 
-ghost use Rattle.std.specs.Prelude.{◌≡◌, ◌<◌, OnOk, OnErr, [], length, slice_get, option_copied, option_map, remove, vec_len};
-ghost use Rattle.nu_value.specs.Pairs.{key_place, found_at, mapped_value, with_pair};
+ghost use Rattle.std.specs.Prelude.{◌≡◌, ◌<◌, OnOk, OnErr, None, [], ◌∷◌, ◌++◌, length, slice_get, option_copied, option_map, remove};
+ghost use Rattle.indexmap.specs.IndexMap.{get};
+ghost use Rattle.nu_value.specs.Atoms.{key_eq};
+ghost use Rattle.nu_value.specs.Pairs.{found_at, mapped_at, mapped_value, with_pair};
+ghost use Rattle.nu_value.specs.Triples.{triples};
+ghost use Rattle.nu_value.specs.Held.{held};
 
 use crate::key::Key;
 use crate::value::Value;
+use indexmap::IndexMap;
 use std::alloc::{AllocError, Global};
 use std::marker::Model;
 
@@ -12,7 +17,9 @@ use std::marker::Model;
 /// value that it maps to.
 #[derive(Drop)]
 pub struct Pairs {
-    list: Vec<(Key, Value, Value)>,
+    // none as long as there is no pair
+    map: Option<Box<IndexMap<Key, (Value, Value)>>>,
+    alloc: Global,
 }
 
 impl Model for Pairs {
@@ -22,51 +29,168 @@ impl Model for Pairs {
 
     ghost Value = { List (List Atom × Element × Element) };
 
-    ghost view = { λ t. t.list.items };
+    ghost use Rattle.nu_value.specs.Held.{held};
+
+    ghost view = { λ t. held t.map };
 }
 
-/// The place of a key, or the length.
-fn place_of(list: &[(Key, Value, Value)], key: &Key) -> usize
-    ensures { result ≡ key_place list.now key.now }
+/// Gives the key at a place another value that it maps to.
+fn map_at(map: &mut IndexMap<Key, (Value, Value)>, place: usize, value: Value)
+    requires { place < length map.old.entries }
+    ensures { triples map.new.entries ≡ mapped_at (triples map.old.entries) place value (slice_get (triples map.old.entries) place) }
 {
-    for (place, pair) in list.iter().enumerate() {
-        if pair.0.is_same(key) {
-            return place;
+    map[place].1 = value;
+}
+
+/// Adds a key that isn't there.
+fn add(
+    map: &mut IndexMap<Key, (Value, Value)>,
+    key: Key,
+    given: Value,
+    value: Value,
+) -> Result<(), AllocError>
+    requires { get key_eq map.old key ≡ None }
+    ensures ok { OnOk result (triples map.new.entries ≡ triples map.old.entries ++ (key, given, value) ∷ []) }
+    ensures err { OnErr result (map.new.entries ≡ map.old.entries) }
+{
+    map.insert(key, (given, value))?;
+    Ok(())
+}
+
+fn put_pair(
+    map: &mut IndexMap<Key, (Value, Value)>,
+    key: Key,
+    given: Value,
+    value: Value,
+) -> Result<(), AllocError>
+    ensures ok { OnOk result (triples map.new.entries ≡ with_pair (triples map.old.entries) key given value) }
+    ensures err { OnErr result (map.new.entries ≡ map.old.entries) }
+{
+    match map.get_index_of(&key) {
+        Some(place) => {
+            map_at(map, place, value);
+            Ok(())
+        }
+        None => add(map, key, given, value),
+    }
+}
+
+fn place_in(map: &IndexMap<Key, (Value, Value)>, key: &Key) -> Option<usize>
+    ensures { result ≡ found_at (triples map.now.entries) key.now }
+{
+    map.get_index_of(key)
+}
+
+fn pair_at<'a>(
+    map: &'a IndexMap<Key, (Value, Value)>,
+    place: usize,
+) -> Option<(&'a Key, &'a Value, &'a Value)>
+    ensures { option_map (λ p. (p.0.now, p.1.now, p.2.now)) result ≡ slice_get (triples map.now.entries) place }
+{
+    match map.get_index(place) {
+        Some((key, values)) => Some((key, &values.0, &values.1)),
+        None => None,
+    }
+}
+
+fn value_in<'a>(map: &'a IndexMap<Key, (Value, Value)>, key: &Key) -> Option<&'a Value>
+    ensures { option_copied result ≡ mapped_value (triples map.now.entries) key.now }
+{
+    match map.get(key) {
+        Some(values) => Some(&values.1),
+        None => None,
+    }
+}
+
+fn take_pair(map: &mut IndexMap<Key, (Value, Value)>, place: usize) -> (Value, Value)
+    requires { place < length map.old.entries }
+    ensures pair { option_map (λ p. (p.1, p.2)) (slice_get (triples map.old.entries) place) ≡ Some result }
+    ensures rest { triples map.new.entries ≡ remove (triples map.old.entries) place }
+{
+    let Some((_, values)) = map.shift_remove_index(place) else {
+        unreachable!();
+    };
+    values
+}
+
+type Held = Option<Box<IndexMap<Key, (Value, Value)>>>;
+
+fn take_held(held_map: &mut Held, place: usize) -> (Value, Value)
+    requires { place < length (held held_map.old) }
+    ensures pair { option_map (λ p. (p.1, p.2)) (slice_get (held held_map.old) place) ≡ Some result }
+    ensures rest { held held_map.new ≡ remove (held held_map.old) place }
+{
+    match held_map {
+        Some(map) => take_pair(map, place),
+        None => unreachable!(),
+    }
+}
+
+fn put_held(
+    alloc: Global,
+    held_map: &mut Held,
+    key: Key,
+    given: Value,
+    value: Value,
+) -> Result<(), AllocError>
+    ensures ok { OnOk result (held held_map.new ≡ with_pair (held held_map.old) key given value) }
+    ensures err { OnErr result (held held_map.new ≡ held held_map.old) }
+{
+    match held_map {
+        Some(map) => put_pair(map, key, given, value),
+        None => {
+            let mut map = IndexMap::new(alloc);
+            put_pair(&mut map, key, given, value)?;
+            *held_map = Some(Box::new(alloc, map)?);
+            Ok(())
         }
     }
-    list.len()
 }
 
-/// Takes out the pair at a place.
-fn take_pair(list: &mut Vec<(Key, Value, Value)>, place: usize) -> (Key, Value, Value)
-    requires { place < vec_len list.old }
-    ensures pair { slice_get list.old.items place ≡ Some result }
-    ensures rest { list.new.items ≡ remove list.old.items place }
+fn add_held(
+    alloc: Global,
+    held_map: &mut Held,
+    key: Key,
+    given: Value,
+    value: Value,
+) -> Result<(), AllocError>
+    requires { found_at (held held_map.old) key ≡ None }
+    ensures ok { OnOk result (held held_map.new ≡ held held_map.old ++ (key, given, value) ∷ []) }
+    ensures err { OnErr result (held held_map.new ≡ held held_map.old) }
 {
-    list.remove(place)
+    match held_map {
+        Some(map) => add(map, key, given, value),
+        None => {
+            let mut map = IndexMap::new(alloc);
+            add(&mut map, key, given, value)?;
+            *held_map = Some(Box::new(alloc, map)?);
+            Ok(())
+        }
+    }
 }
 
 impl Pairs {
     pub fn new(alloc: Global) -> Pairs
         ensures { result ≡ [] }
     {
-        Pairs {
-            list: Vec::new(alloc),
-        }
+        Pairs { map: None, alloc }
     }
 
     pub fn len(&self) -> usize
         ensures { result ≡ length self.now }
     {
-        self.list.len()
+        match &self.map {
+            Some(map) => map.len(),
+            None => 0,
+        }
     }
 
     /// The pair at this place; None where the place isn't below the length.
     pub fn at(&self, place: usize) -> Option<(&Key, &Value, &Value)>
         ensures { option_map (λ p. (p.0.now, p.1.now, p.2.now)) result ≡ slice_get self.now place }
     {
-        match self.list.get(place) {
-            Some(pair) => Some((&pair.0, &pair.1, &pair.2)),
+        match &self.map {
+            Some(map) => pair_at(map, place),
             None => None,
         }
     }
@@ -75,11 +199,9 @@ impl Pairs {
     pub fn find(&self, key: &Key) -> Option<usize>
         ensures { result ≡ found_at self.now key.now }
     {
-        let place = place_of(&self.list, key);
-        if place < self.list.len() {
-            Some(place)
-        } else {
-            None
+        match &self.map {
+            Some(map) => place_in(map, key),
+            None => None,
         }
     }
 
@@ -87,8 +209,8 @@ impl Pairs {
     pub fn value_of(&self, key: &Key) -> Option<&Value>
         ensures { option_copied result ≡ mapped_value self.now key.now }
     {
-        match self.list.get(place_of(&self.list, key)) {
-            Some(pair) => Some(&pair.2),
+        match &self.map {
+            Some(map) => value_in(map, key),
             None => None,
         }
     }
@@ -98,13 +220,16 @@ impl Pairs {
         ensures ok { OnOk result (self.new ≡ with_pair self.old key given value) }
         ensures err { OnErr result (self.new ≡ self.old) }
     {
-        let place = place_of(&self.list, &key);
-        if place < self.list.len() {
-            self.list[place].2 = value;
-        } else {
-            self.list.push((key, given, value))?;
-        }
-        Ok(())
+        put_held(self.alloc, &mut self.map, key, given, value)
+    }
+
+    /// Maps a key that isn't there to a value, at the end.
+    pub fn add(&mut self, key: Key, given: Value, value: Value) -> Result<(), AllocError>
+        requires { found_at self.old key ≡ None }
+        ensures ok { OnOk result (self.new ≡ self.old ++ (key, given, value) ∷ []) }
+        ensures err { OnErr result (self.new ≡ self.old) }
+    {
+        add_held(self.alloc, &mut self.map, key, given, value)
     }
 
     /// Takes out the pair at this place: the value given for its key, and the value that it maps to.
@@ -113,13 +238,12 @@ impl Pairs {
         ensures pair { option_map (λ p. (p.1, p.2)) (slice_get self.old place) ≡ Some result }
         ensures rest { self.new ≡ remove self.old place }
     {
-        let (_, given, value) = take_pair(&mut self.list, place);
-        (given, value)
+        take_held(&mut self.map, place)
     }
 
     pub fn clear(&mut self)
         ensures { self.new ≡ [] }
     {
-        self.list.clear();
+        self.map = None;
     }
 }

@@ -22,24 +22,22 @@ use Rattle.node_tree.specs.declared.node.Argument.TheVariants as argument
 use Rattle.node_tree.specs.declared.script.NodeCode.{NodeCode}
 use Rattle.node_tree.specs.declared.script.NodeScript.{NodeScript}
 use Rattle.node_tree.specs.Blocks as tree
-use Rattle.node_tree.specs.Contents.{form_operations, form_total, total, yields}
+use Rattle.node_tree.specs.Contents.{form_operations, form_total, total}
 use Rattle.node_tree.specs.Run as node_run
 use Rattle.node_tree.specs.Tree.{block}
 use Rattle.reform_all.specs.Scripts.{module_header, IsReformed}
 use Rattle.reform_all.specs.Taken as nodes
-use Rattle.flow_code.specs.declared.cut.CutFunction.{CutFunction}
-use Rattle.flow_code.specs.declared.cut.CutScript.{CutScript}
 use Rattle.flow_code.specs.declared.function.FlatFunction.{FlatFunction}
 use Rattle.flow_code.specs.declared.function.FlatScript.{FlatScript}
 use Rattle.flow_code.specs.Contents as flat
-use Rattle.flow_code.specs.Run.{header, cut_header}
+use Rattle.flow_code.specs.Run.{header}
 use Rattle.flow_lower.specs.Correct as lowering
 use Rattle.flow_lower.specs.Kept as lowering_kept
 use Rattle.flow_lower.specs.Lower.{argument_of}
 use Rattle.generator_cut.specs.Correct as cutting
-use Rattle.c_emit.specs.Correct as emitting
-use Rattle.c_emit.specs.Program as program
-use Rattle.c_emit.specs.Writable.{IsCounted, IsHeading, is_taken, refused}
+use Rattle.generator_cut.specs.Cut as program
+use Rattle.generator_cut.specs.Writable.{IsCounted, IsHeading, is_taken, refused}
+use Rattle.c_meaning.specs.declared.program.CProgram.{CProgram}
 use Rattle.c_meaning.specs.Run.{c_run}
 use Rattle.c_meaning.specs.Written as c
 use Rattle.nuit_lib.specs.Compiled.{IsProgramOf}
@@ -90,7 +88,7 @@ all_too (k ∷ ks) more [] h = no_false h
 all_too (k ∷ ks) more (a ∷ args) h = both_true _ _ _ _ (takes_too k a) (all_too ks more args) h
 
 taken_too : (o : Op) (args : List Argument) → nodes.is_taken o args ≡ true → is_taken o (map argument_of args) ≡ true
-taken_too o args h = both_true _ _ _ _ (λ e. e) (all_too (arguments o) (further o) args) h
+taken_too o args h = all_too (arguments o) (further o) args h
 
 -- what is refused later was refused before
 one_less : (a b : Bool) → (a ≡ true → b ≡ true) → (if not b then 1 else 0) ≤ (if not a then 1 else 0)
@@ -138,7 +136,7 @@ mutual
   total_less tree.Stop = omega arith
   total_less (tree.Follow x r) = let p = whole_less x in let q = total_less r in omega (arith, p, q)
 
--- From codes to flat functions, and from these to cut ones
+-- From codes to flat functions
 
 header_is : (k : NodeCode) (f : FlatFunction) → lowering.LowersCode k f → header f ≡ node_run.header k
 header_is k f h = let a = h.scope in let b = h.params in let d = h.generator in let e = h.line in cc
@@ -149,12 +147,6 @@ headers_are [] (f ∷ fs) h = absurd h
 headers_are (k ∷ ks) [] h = absurd h
 headers_are (k ∷ ks) (f ∷ fs) h = let a = header_is k f h.0 in let b = headers_are ks fs h.1 in ap (λ x. x ∷ map header fs) a ∙ ap (λ xs. node_run.header k ∷ xs) b
 
-pub flat_yields : (ks : List NodeCode) (fs : List FlatFunction) → lowering_kept.KeepsEach ks fs → AllByRecursion (λ k. yields (block k.body) ≡ 0) ks → AllByRecursion (λ f. flat.yields f.body ≡ 0) fs
-flat_yields [] [] h a = tt
-flat_yields [] (f ∷ fs) h a = absurd h
-flat_yields (k ∷ ks) [] h a = absurd h
-flat_yields (k ∷ ks) (f ∷ fs) h a = (h.0.yields ∙ a.0, flat_yields ks fs h.1 a.1)
-
 no_more : (n m : ℕ) → n ≤ m → m ≡ 0 → n ≡ 0
 no_more n m h e = omega (arith, h, e)
 
@@ -164,50 +156,44 @@ flat_taken [] (f ∷ fs) h a = absurd h
 flat_taken (k ∷ ks) [] h a = absurd h
 flat_taken (k ∷ ks) (f ∷ fs) h a = (h.0.operations (λ o args. not (is_taken o args)) ∙ no_more _ _ (total_less (block k.body)) a.0, flat_taken ks fs h.1 a.1)
 
-cut_taken : (fs : List FlatFunction) (gs : List CutFunction) → cutting.KeepsEach fs gs → AllByRecursion (λ f. refused f.body ≡ 0) fs → AllByRecursion (λ g. refused g.body ≡ 0) gs
-cut_taken [] [] h a = tt
-cut_taken [] (g ∷ gs) h a = absurd h
-cut_taken (f ∷ fs) [] h a = absurd h
-cut_taken (f ∷ fs) (g ∷ gs) h a = (h.0.operations (λ o args. not (is_taken o args)) ∙ a.0, cut_taken fs gs h.1 a.1)
-
--- What `emit` asks for
+-- What `cut` asks for
 
 heading_is : AllByRecursion IsHeading (module_header ∷ [])
-heading_is = (record { params = tt; order = refl; kind = refl; from_one = omega arith }, tt)
+heading_is = (record { params = tt; order = refl; from_one = omega arith }, tt)
 
-module _ (name : List ℕ) (s : Scoped) (tree : NodeScript) (lines : FlatScript) (code : CutScript) (r : IsReformed name s tree) (l : lowering.Lowers tree lines) (kept : lowering_kept.KeepsEach tree.codes lines.functions) (h : cutting.HasHeads lines code) (keeps : cutting.KeepsEach lines.functions code.functions) where
-  heads : map cut_header code.functions ≡ map node_run.header tree.codes
-  heads = h.headers ∙ headers_are tree.codes lines.functions l.functions
+module _ (name : List ℕ) (s : Scoped) (tree : NodeScript) (lines : FlatScript) (r : IsReformed name s tree) (l : lowering.Lowers tree lines) (kept : lowering_kept.KeepsEach tree.codes lines.functions) where
+  heads : map header lines.functions ≡ map node_run.header tree.codes
+  heads = headers_are tree.codes lines.functions l.functions
 
-  one_head : map cut_header code.functions ≡ module_header ∷ []
+  one_head : map header lines.functions ≡ module_header ∷ []
   one_head = heads ∙ r.«module»
 
-  one_function : length code.functions ≡ 1
-  one_function = sym (length-map code.functions cut_header) ∙ ap length one_head
+  one_function : length lines.functions ≡ 1
+  one_function = sym (length-map lines.functions header) ∙ ap length one_head
 
-  one_script : code.scripts ≡ 1
-  one_script = h.scripts ∙ l.scripts ∙ r.scripts ∙ r.single
+  one_script : lines.scripts ≡ 1
+  one_script = l.scripts ∙ r.scripts ∙ r.single
 
-  pub counted : IsCounted code
+  pub counted : IsCounted lines
   counted = let a = one_script in let b = one_function in record { some = omega (arith, a); within = omega (arith, a, b); few = omega (arith, b) }
 
-  pub headings : AllByRecursion IsHeading (map cut_header code.functions)
+  pub headings : AllByRecursion IsHeading (map header lines.functions)
   headings = subst (AllByRecursion IsHeading) (sym one_head) heading_is
 
-  pub all_taken : AllByRecursion (λ f. refused f.body ≡ 0) code.functions
-  all_taken = cut_taken lines.functions code.functions keeps (flat_taken tree.codes lines.functions kept r.taken)
+  pub all_taken : AllByRecursion (λ f. refused f.body ≡ 0) lines.functions
+  all_taken = flat_taken tree.codes lines.functions kept r.taken
 
   -- The program is the script's
 
-  module _ (law : RunsNeverEndUndefined) (table : TheTableKeepsLaw) (defined : AcceptedScriptsNeverEndUndefined) (lowered : lowering.DoesTheSame tree lines) (cut : cutting.DoesTheSame lines code) (emitted : emitting.DoesTheSame code (program.program_of code)) (heads_kept : emitting.HasHeads code (program.program_of code)) where
-    pub is_program : Answers s.script (Ok s) → IsProgramOf name s (program.program_of code)
+  module _ (law : RunsNeverEndUndefined) (table : TheTableKeepsLaw) (defined : AcceptedScriptsNeverEndUndefined) (lowered : lowering.DoesTheSame tree lines) (p : CProgram) (cut : cutting.DoesTheSame lines p) (heads_kept : cutting.HasHeads lines p) where
+    pub is_program : Answers s.script (Ok s) → IsProgramOf name s p
     is_program accepted = record {
-      scripts = heads_kept.scripts ∙ h.scripts ∙ l.scripts ∙ r.scripts;
+      scripts = heads_kept.scripts ∙ l.scripts ∙ r.scripts;
       headers = heads_kept.headers ∙ heads ∙ r.headers;
       same = λ input. same input;
     }
       where
-        same : (input : List ℕ) → Same (py_run table_rules name s None input) (c_run table_rules (program.program_of code) input)
+        same : (input : List ℕ) → Same (py_run table_rules name s None input) (c_run table_rules p input)
         same input =
             let d0 = defined.alone table_rules table name s.script s accepted input in
             let s1 = r.same table_rules input in
@@ -215,6 +201,4 @@ module _ (name : List ℕ) (s : Scoped) (tree : NodeScript) (lines : FlatScript)
             let s2 = lowered table_rules input d1 in
             let d2 = law.same _ _ s2 d1 in
             let s3 = cut table_rules input d2 in
-            let d3 = law.same _ _ s3 d2 in
-            let s4 = emitted table_rules input d3 in
-            same_trans _ _ _ s1 (same_trans _ _ _ s2 (same_trans _ _ _ s3 s4))
+            same_trans _ _ _ s1 (same_trans _ _ _ s2 s3)

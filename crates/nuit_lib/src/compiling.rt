@@ -1,4 +1,4 @@
-//! From a resolved script to C text: primitive statements, flat code, cut code.
+//! From a resolved script to C text: primitive statements, flat code, a program.
 
 ghost use Rattle.std.specs.Prelude.{MatchResult};
 ghost use Rattle.nuit_lib.specs.Compiled.{IsCompiled, IsUncompiled};
@@ -24,7 +24,7 @@ pub(crate) fn compile(alloc: Global, name: &str, script: &Scoped) -> Result<Vec<
     accepted_scripts_never_end_undefined();
     let nodes = reform(alloc, name, script)?;
     let flat = lower(alloc, &nodes)?;
-    let code = cut(alloc, flat)?;
-    let text = emit(alloc, &code)?;
+    let program = cut(alloc, &flat)?;
+    let text = emit(alloc, &program)?;
     Ok(text)
 }

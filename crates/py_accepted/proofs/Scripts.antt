@@ -11,7 +11,7 @@ use Rattle.py_ast.specs.declared.scoped.Scope.{Scope}
 use Rattle.py_ast.specs.declared.scoped.ScopeKind.TheVariants as kind
 use Rattle.py_ast.specs.declared.stmt.Stmt.{Stmt}
 use Rattle.py_scopes.specs.declared.survey.Survey.{Survey}
-use Rattle.py_scopes.specs.Survey.{enter, stmts, top, surveyed, own_name, class_name, is_generator_kind}
+use Rattle.py_scopes.specs.Survey.{enter, stmts, top, survey_of, own_name, class_name, is_generator_kind}
 use Rattle.py_scopes.specs.Homes.{somewhere}
 use Rattle.py_scopes.specs.Rules.{KeepsAll, is_function, kind_of}
 use Rattle.py_scopes.specs.Resolve.{scopes_of, is_yield}
@@ -57,15 +57,15 @@ pub record AllFit (z : Case) (xs : List Stmt) : Type 0 where
   pub count : length z.survey.scopes ≡ length (codes_for (scopes_of z.survey) z.first xs)
   pub module_is : role_in (scopes_of z.survey) 0 ≡ OfModule
 
-abbrev nothing_yet : Survey
-nothing_yet = record { scopes = []; sites = [] }
+abbrev nothing_yet : Bool → Survey
+nothing_yet built_in = record { built_in = built_in; scopes = []; sites = [] }
 
-abbrev beginning : Survey
-beginning = enter 1 kind.Module (own_name kind.Module) top nothing_yet
+abbrev beginning : Bool → Survey
+beginning built_in = enter 1 kind.Module (own_name kind.Module) top (nothing_yet built_in)
 
-survey_is : (xs : List Stmt) → surveyed xs ≡ stmts xs top beginning
-unfolding surveyed
-survey_is xs = refl
+survey_is : (built_in : Bool) (xs : List Stmt) → survey_of built_in xs ≡ stmts xs top (beginning built_in)
+unfolding survey_of
+survey_is built_in xs = refl
 
 abbrev module_room : Case → Room
 module_room z = inner_room z 0 kind.Module [] 0
@@ -90,19 +90,20 @@ module _ (z : Case) (e : IsScope z 0 1 kind.Module (own_name kind.Module) top) w
       let none : somewhere is_yield 0 z.survey.sites ≡ false = no_yield z 0 (ap (λ o. is_function (kind_of o)) e) in
       (ap (λ o. (header o []).params) is, module_frees (scopes_of z.survey), subst IsFalse (sym (ap (λ o. (header o []).generator) is ∙ ap (λ b. b || is_generator_kind kind.Module) none)) tt)
 
-pub all_fit : (z : Case) (xs : List Stmt) → z.survey ≡ surveyed xs → AllFit z xs
+pub all_fit : (z : Case) (built_in : Bool) (xs : List Stmt) → z.survey ≡ survey_of built_in xs → AllFit z xs
 unfolding class_name
-all_fit z xs same =
-    let t = stmts xs top beginning in
-    let is : z.survey ≡ t = same ∙ survey_is xs in
+all_fit z built_in xs same =
+    let begun = beginning built_in in
+    let t = stmts xs top begun in
+    let is : z.survey ≡ t = same ∙ survey_is built_in xs in
     let part : IsPart z.survey t = record { scopes_more = []; scopes = ap (λ s. s.scopes) is ∙ sym (append-nil t.scopes); sites_more = []; sites = ap (λ s. s.sites) is ∙ sym (append-nil t.sites) } in
     let d = stmts_do z 1 top [] (module_room z) xs in
-    let h = entered z 1 kind.Module (own_name kind.Module) top nothing_yet (d.adds beginning part) in
-    let number : length beginning.scopes ≡ 1 = h.2 in
+    let h = entered z 1 kind.Module (own_name kind.Module) top (nothing_yet built_in) (d.adds begun part) in
+    let number : length begun.scopes ≡ 1 = h.2 in
     let c = module_context (scopes_of z.survey) z.first in
     let m = block c (map stmt xs) in
     let good = LawfulBlock z.roster (module_room z) false in
-    let x : Result z good beginning t (m 1) = subst (λ n. Result z good beginning t (m n)) number (d.here (module_within z h.1) beginning (omega (arith, number)) part) in
+    let x : Result z good begun t (m 1) = subst (λ n. Result z good begun t (m n)) number (d.here (module_within z h.1) begun (omega (arith, number)) part) in
     let y : CodesFit z 1 (m 1).codes = subst (λ n. CodesFit z n (m 1).codes) number x.codes in
     record {
       codes = (lawful_code z 0 1 kind.Module (own_name kind.Module) top h.1 [] 0 [] None (syntax.Statements (m 1).is) (omega arith) (module_run z h.1 (syntax.Statements (m 1).is)) refl x.fine, y);
@@ -132,7 +133,7 @@ pub none_more : (n : ℕ) → 0 + n ≡ n
 none_more n = omega arith
 
 -- a script of which the first code has this number
-module _ (s : Survey) (keeps : KeepsAll s) (nests : Nest (scopes_of s)) (xs : List Stmt) (same : s ≡ surveyed xs) (first : ℕ) where
+module _ (s : Survey) (keeps : KeepsAll s) (nests : Nest (scopes_of s)) (built_in : Bool) (xs : List Stmt) (same : s ≡ survey_of built_in xs) (first : ℕ) where
   -- headers with some in front, by the scopes alone
   abbrev by_scopes : List Scope → Roster
   by_scopes before = record { headers = map (λ x. header (Some x) []) (before ++ scopes_of s); frees = λ n. length (free_names (scopes_of s) (n - first)); role = λ n. role_in (scopes_of s) (n - first) }
@@ -147,7 +148,7 @@ module _ (s : Survey) (keeps : KeepsAll s) (nests : Nest (scopes_of s)) (xs : Li
         (ap (role_in (scopes_of s)) back) (ap (λ k. length (free_names (scopes_of s) k)) back)
 
     pub shapes : AllFit (record { survey = s; keeps = keeps; nests = nests; roster = by_scopes before; first = first; coded = coded_so }) xs
-    shapes = all_fit (record { survey = s; keeps = keeps; nests = nests; roster = by_scopes before; first = first; coded = coded_so }) xs same
+    shapes = all_fit (record { survey = s; keeps = keeps; nests = nests; roster = by_scopes before; first = first; coded = coded_so }) built_in xs same
 
     abbrev its_codes : List syntax.Code
     its_codes = codes_for (scopes_of s) first xs

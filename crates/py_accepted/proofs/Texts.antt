@@ -1,5 +1,5 @@
 -- The codes of accepted scripts are lawful, also with those of a built-in text behind them.
-use Rattle.std.proofs.Common.{◌≡◌, ℕ, ◌+◌, ◌-◌, ◌<◌, List, [], ◌++◌, length, Some, Ok, inl, inr, refl, ap, ◌∙◌, sym, subst, arith}
+use Rattle.std.proofs.Common.{◌≡◌, ℕ, Bool, true, false, ◌+◌, ◌-◌, ◌<◌, List, [], ◌++◌, length, Some, Ok, inl, inr, refl, ap, ◌∙◌, sym, subst, arith}
 use Rattle.std.specs.Prelude.{slice_get, option_map}
 use Rattle.std.proofs.lemmas.Bool.{cases_lt}
 use Rattle.std.proofs.lemmas.Option.{slice_get-map, slice_get_within}
@@ -8,9 +8,9 @@ use Rattle.py_ast.specs.declared.scoped.Scoped.{Scoped}
 use Rattle.py_ast.specs.declared.stmt.Script.{Script}
 use Rattle.py_ast.specs.declared.stmt.Stmt.{Stmt}
 use Rattle.py_scopes.specs.declared.survey.Survey.{Survey}
-use Rattle.py_scopes.specs.Survey.{surveyed}
+use Rattle.py_scopes.specs.Survey.{survey_of}
 use Rattle.py_scopes.specs.Rules.{KeepsAll}
-use Rattle.py_scopes.specs.Resolve.{Answers, scopes_of}
+use Rattle.py_scopes.specs.Resolve.{Answers, AnswersBuiltIn, scopes_of}
 use Rattle.py_scopes.specs.Nested.{Nest, ScopesNest}
 use Rattle.py_meaning.specs.Syntax as syntax
 use Rattle.py_meaning.specs.Resolved.{codes_of}
@@ -25,7 +25,7 @@ use Rattle.py_accepted.proofs.Scripts.{all_fit, code_at, codes_for, none_more, s
 
 -- A script alone
 
-module _ (s : Survey) (keeps : KeepsAll s) (nests : Nest (scopes_of s)) (xs : List Stmt) (same : s ≡ surveyed xs) where
+module _ (s : Survey) (keeps : KeepsAll s) (nests : Nest (scopes_of s)) (built_in : Bool) (xs : List Stmt) (same : s ≡ survey_of built_in xs) where
   abbrev codes : List syntax.Code
   codes = codes_for (scopes_of s) 0 xs
 
@@ -39,14 +39,14 @@ module _ (s : Survey) (keeps : KeepsAll s) (nests : Nest (scopes_of s)) (xs : Li
     nests = nests;
     roster = its_roster;
     first = 0;
-    coded = coded_in s keeps nests xs same 0 [] refl its_roster
+    coded = coded_in s keeps nests built_in xs same 0 [] refl its_roster
         (λ n x e. let is = ap (slice_get codes) (none_more n) ∙ e in (slice_get-map (λ code. code.header) codes (0 + n) ∙ ap (option_map (λ code. code.header)) is, ap frees_in is))
         (λ n l. ap (role_in (scopes_of s)) (none_more n));
   }
 
   alone_lawful : LawfulCodes (role_in (scopes_of s)) (length (scopes_of s)) codes
   alone_lawful =
-      let f = all_fit its_case xs same in
+      let f = all_fit its_case built_in xs same in
       record {
         some = omega (arith, f.count, scopes_length s);
         script = (omega (arith, f.count, scopes_length s), f.module_is);
@@ -56,7 +56,7 @@ module _ (s : Survey) (keeps : KeepsAll s) (nests : Nest (scopes_of s)) (xs : Li
 
   alone_codes : OneForEach (scopes_of s) codes
   alone_codes =
-      let f = all_fit its_case xs same in
+      let f = all_fit its_case built_in xs same in
       record {
         count = sym f.count ∙ sym (scopes_length s);
         heads = λ n x e. (code_at its_case 0 n codes f.codes n x (omega arith) e).heading;
@@ -64,21 +64,21 @@ module _ (s : Survey) (keeps : KeepsAll s) (nests : Nest (scopes_of s)) (xs : Li
 
 script_codes : ScopesNest → (script : Script) (scoped : Scoped) → Answers script (Ok scoped) → OneForEach scoped.scopes (codes_of 0 scoped)
 script_codes nests script scoped a =
-    let s = surveyed script.statements in
-    let nest : Nest (scopes_of s) = subst Nest a.1.0 (nests script scoped a) in
+    let s = survey_of false script.statements in
+    let nest : Nest (scopes_of s) = subst Nest a.1.0 (nests false script scoped a) in
     subst (λ q. OneForEach q (codes_for q 0 scoped.script.statements)) (sym a.1.0)
-    (subst (λ t. OneForEach (scopes_of s) (codes_for (scopes_of s) 0 t.statements)) (sym a.0) (alone_codes s a.1.1 nest script.statements refl))
+    (subst (λ t. OneForEach (scopes_of s) (codes_for (scopes_of s) 0 t.statements)) (sym a.0) (alone_codes s a.1.1 nest false script.statements refl))
 
 script_lawful : ScopesNest → (script : Script) (scoped : Scoped) → Answers script (Ok scoped) → LawfulCodes (role_in scoped.scopes) (length scoped.scopes) (codes_of 0 scoped)
 script_lawful nests script scoped a =
-    let s = surveyed script.statements in
-    let nest : Nest (scopes_of s) = subst Nest a.1.0 (nests script scoped a) in
+    let s = survey_of false script.statements in
+    let nest : Nest (scopes_of s) = subst Nest a.1.0 (nests false script scoped a) in
     subst (λ q. LawfulCodes (role_in q) (length q) (codes_for q 0 scoped.script.statements)) (sym a.1.0)
-    (subst (λ t. LawfulCodes (role_in (scopes_of s)) (length (scopes_of s)) (codes_for (scopes_of s) 0 t.statements)) (sym a.0) (alone_lawful s a.1.1 nest script.statements refl))
+    (subst (λ t. LawfulCodes (role_in (scopes_of s)) (length (scopes_of s)) (codes_for (scopes_of s) 0 t.statements)) (sym a.0) (alone_lawful s a.1.1 nest false script.statements refl))
 
--- With a text behind
+-- With the built-in text behind
 
-module _ (s t : Survey) (keeps : KeepsAll s) (keeps_too : KeepsAll t) (nests : Nest (scopes_of s)) (nests_too : Nest (scopes_of t)) (xs ys : List Stmt) (same : s ≡ surveyed xs) (same_too : t ≡ surveyed ys) where
+module _ (s t : Survey) (keeps : KeepsAll s) (keeps_too : KeepsAll t) (nests : Nest (scopes_of s)) (nests_too : Nest (scopes_of t)) (xs ys : List Stmt) (same : s ≡ survey_of false xs) (same_too : t ≡ survey_of true ys) where
   abbrev behind : ℕ
   behind = length (scopes_of s)
 
@@ -92,7 +92,7 @@ module _ (s t : Survey) (keeps : KeepsAll s) (keeps_too : KeepsAll t) (nests : N
   roster = roster_of (role_in (scopes_of s ++ scopes_of t)) (script ++ text)
 
   count : behind ≡ length script
-  count = scopes_length s ∙ (shapes s keeps nests xs same 0 [] refl).count
+  count = scopes_length s ∙ (shapes s keeps nests false xs same 0 [] refl).count
 
   role_here : (n : ℕ) → n < behind → role_in (scopes_of s ++ scopes_of t) n ≡ role_in (scopes_of s) n
   role_here n l = ap (λ o. role_of (kind_in o)) (got_in (scopes_of s) (scopes_of t) n l)
@@ -110,7 +110,7 @@ module _ (s t : Survey) (keeps : KeepsAll s) (keeps_too : KeepsAll t) (nests : N
     nests = nests;
     roster = roster;
     first = 0;
-    coded = coded_in s keeps nests xs same 0 [] refl roster
+    coded = coded_in s keeps nests false xs same 0 [] refl roster
         (λ n x e. let l = slice_get_within script n x e in at_code (0 + n) x (ap (slice_get (script ++ text)) (none_more n) ∙ got_in script text n l ∙ e))
         (λ n l. ap (role_in (scopes_of s ++ scopes_of t)) (none_more n) ∙ role_here n (omega (arith, l, scopes_length s)));
   }
@@ -122,15 +122,15 @@ module _ (s t : Survey) (keeps : KeepsAll s) (keeps_too : KeepsAll t) (nests : N
     nests = nests_too;
     roster = roster;
     first = behind;
-    coded = coded_in t keeps_too nests_too ys same_too behind (scopes_of s) refl roster
+    coded = coded_in t keeps_too nests_too true ys same_too behind (scopes_of s) refl roster
         (λ n x e. at_code (behind + n) x (got_behind script text n (behind + n) (omega (arith, count)) ∙ e))
         (λ n l. role_there n (behind + n) refl);
   }
 
   pub both_lawful : LawfulCodes (role_in (scopes_of s ++ scopes_of t)) behind (script ++ text)
   both_lawful =
-      let f = all_fit case xs same in
-      let g = all_fit case_too ys same_too in
+      let f = all_fit case false xs same in
+      let g = all_fit case_too true ys same_too in
       record {
         some = omega (arith, count, length-append script text);
         script = (omega (arith, f.count, scopes_length s), role_here 0 (omega (arith, f.count, scopes_length s)) ∙ f.module_is);
@@ -143,13 +143,13 @@ module _ (s t : Survey) (keeps : KeepsAll s) (keeps_too : KeepsAll t) (nests : N
         ];
       }
 
-text_lawful : ScopesNest → (script : Script) (scoped : Scoped) (text : Script) (behind : Scoped) → Answers script (Ok scoped) → Answers text (Ok behind)
+text_lawful : ScopesNest → (script : Script) (scoped : Scoped) (text : Script) (behind : Scoped) → Answers script (Ok scoped) → AnswersBuiltIn text (Ok behind)
     → LawfulCodes (role_in (scoped.scopes ++ behind.scopes)) (length scoped.scopes) (codes_for scoped.scopes 0 scoped.script.statements ++ codes_for behind.scopes (length scoped.scopes) behind.script.statements)
 text_lawful nests script scoped text behind a b =
-    let s = surveyed script.statements in
-    let t = surveyed text.statements in
-    let nest : Nest (scopes_of s) = subst Nest a.1.0 (nests script scoped a) in
-    let nest_too : Nest (scopes_of t) = subst Nest b.1.0 (nests text behind b) in
+    let s = survey_of false script.statements in
+    let t = survey_of true text.statements in
+    let nest : Nest (scopes_of s) = subst Nest a.1.0 (nests false script scoped a) in
+    let nest_too : Nest (scopes_of t) = subst Nest b.1.0 (nests true text behind b) in
     subst (λ p. LawfulCodes (role_in (p ++ behind.scopes)) (length p) (codes_for p 0 scoped.script.statements ++ codes_for behind.scopes (length p) behind.script.statements)) (sym a.1.0)
     (subst (λ q. LawfulCodes (role_in (scopes_of s ++ q)) (length (scopes_of s)) (codes_for (scopes_of s) 0 scoped.script.statements ++ codes_for q (length (scopes_of s)) behind.script.statements)) (sym b.1.0)
     (subst (λ u. LawfulCodes (role_in (scopes_of s ++ scopes_of t)) (length (scopes_of s)) (codes_for (scopes_of s) 0 u.statements ++ codes_for (scopes_of t) (length (scopes_of s)) behind.script.statements)) (sym a.0)

@@ -7,7 +7,7 @@ use Rattle.py_ast.specs.declared.scoped.ScopeKind.{ScopeKind}
 use Rattle.py_ast.specs.declared.scoped.ScopeKind.TheVariants as kind
 use Rattle.py_ast.specs.declared.scoped.Scoped.{Scoped}
 use Rattle.py_ast.specs.declared.stmt.Script.{Script}
-use Rattle.py_scopes.specs.Resolve.{Answers}
+use Rattle.py_scopes.specs.Resolve.{Answers, AnswersBuiltIn}
 use Rattle.py_meaning.specs.Scopes.{kind_in}
 use Rattle.py_meaning.specs.Syntax as syntax
 use Rattle.py_meaning.specs.Resolved.{header}
@@ -35,11 +35,11 @@ pub record AcceptedScriptsAreLawful : Type 0 where
   pub codes : (script : Script) (scoped : Scoped) → Answers script (Ok scoped) → OneForEach scoped.scopes (all_codes scoped None)
   pub alone : (script : Script) (scoped : Scoped) → Answers script (Ok scoped) → LawfulCodes (role_in scoped.scopes) (length scoped.scopes) (all_codes scoped None)
   -- also with a built-in text behind the script
-  pub with_text : (script : Script) (scoped : Scoped) (text : Script) (behind : Scoped) → Answers script (Ok scoped) → Answers text (Ok behind)
+  pub with_text : (script : Script) (scoped : Scoped) (text : Script) (behind : Scoped) → Answers script (Ok scoped) → AnswersBuiltIn text (Ok behind)
       → LawfulCodes (role_in (scoped.scopes ++ behind.scopes)) (length scoped.scopes) (all_codes scoped (Some behind))
 
 -- so no run of such a script ends Undefined, alone or with a built-in text, under rules of operations that keep law
 pub record AcceptedScriptsNeverEndUndefined : Type 0 where
   pub alone : (rules : Rules) → KeepsLaw rules → (name : List ℕ) (script : Script) (scoped : Scoped) → Answers script (Ok scoped) → (input : List ℕ) → IsDefined (py_run rules name scoped None input)
-  pub with_text : (rules : Rules) → KeepsLaw rules → (name : List ℕ) (script : Script) (scoped : Scoped) (text : Script) (behind : Scoped) → Answers script (Ok scoped) → Answers text (Ok behind)
+  pub with_text : (rules : Rules) → KeepsLaw rules → (name : List ℕ) (script : Script) (scoped : Scoped) (text : Script) (behind : Scoped) → Answers script (Ok scoped) → AnswersBuiltIn text (Ok behind)
       → (input : List ℕ) → IsDefined (py_run rules name scoped (Some behind) input)

@@ -7,7 +7,7 @@ use Rattle.nu_rows.proofs.Direct.{Direct, act_direct, yield_direct, sub_direct, 
 use Rattle.nu_calls.specs.Calls.{operate, yields}
 use Rattle.py_meaning.specs.Syntax as syntax
 use Rattle.py_meaning.specs.Frames.{R, L, uses, load, store, unbind}
-use Rattle.py_meaning.specs.Expressions.{is_one_of, stopped_or, unless_stopped, delegated, resumes, told, sends, closes, throws, thrown, woken, delegate_turn, delegate, function, put_all, bare_function, as_tuple, compared, keywords_begun, expression, each, named, compare, fill, enter, pass}
+use Rattle.py_meaning.specs.Expressions.{is_one_of, stopped_or, unless_stopped, delegated, resumes, told, sends, closes_inner, throws, thrown, woken, delegate_turn, delegate, function, put_all, bare_function, as_tuple, compared, keywords_begun, expression, each, named, compare, fill, enter, pass}
 
 pub op_direct : (l : L) (line : ℕ) (o : Op) (args : List Value) → Direct (operate l line o args)
 op_direct l line o args = line_direct _ _ (sub_direct _) (λ x. act_direct _)
@@ -65,15 +65,15 @@ told_direct l line v r other x y = value_direct _ _ (op_direct l line _ _) (λ b
 sends_direct : (l : L) (line : ℕ) (iterator v : Value) → Direct (sends l line iterator v)
 sends_direct l line iterator v = told_direct l line v _ _ (resumes_direct l line _ (op_direct l line _ _)) (value_direct _ _ (op_direct l line _ _) (λ s. resumes_direct l line _ (op_direct l line _ _)))
 
-closes_direct : (l : L) (line x : ℕ) (v : Value) → Direct (closes l line x v)
-closes_direct l line x v = told_direct l line v _ _ (act_direct _) (value_direct _ _ (op_direct l line _ _) (λ w. act_direct _))
+closes_inner_direct : (l : L) (line x : ℕ) (v : Value) → Direct (closes_inner l line x v)
+closes_inner_direct l line x v = told_direct l line v _ _ (act_direct _) (value_direct _ _ (op_direct l line _ _) (λ w. act_direct _))
 
 throws_direct : (l : L) (line x : ℕ) (v : Value) → Direct (throws l line x v)
 throws_direct l line x v = told_direct l line v _ _ (act_direct _) (resumes_direct l line _ (op_direct l line _ _))
 
 thrown_direct : (l : L) (line : ℕ) (iterator : Value) (x : ℕ) → Direct (thrown l line iterator x)
 thrown_direct l line iterator x = value_direct _ _ (one_of_direct l line _ x) (λ b. choose_direct b _ _
-    (value_direct _ _ (op_direct l line _ _) (closes_direct l line x))
+    (value_direct _ _ (op_direct l line _ _) (closes_inner_direct l line x))
     (value_direct _ _ (op_direct l line _ _) (throws_direct l line x)))
 
 woken_direct : (l : L) (line : ℕ) (iterator : Value) (e : End) → Direct (woken l line iterator e)

@@ -6,7 +6,7 @@ use Rattle.nu_rows.specs.Rows.{End, Next, Leave, Raised, Return, Stopped, Undefi
 use Rattle.nu_rows.proofs.Direct.{Direct, act_direct, loop_direct, then_direct, value_direct, choose_direct}
 use Rattle.py_meaning.specs.Syntax as syntax
 use Rattle.py_meaning.specs.Frames.{R, L}
-use Rattle.py_meaning.specs.Statements.{assign, assign_each, assign_all, augment, delete, delete_each, body_ended, with_else, else_behind, while_turn, for_turn, returns, goes_on, pending, finishing, tries, caught, leaving, with_manager, raise, reraise, fails, decorators, decorated, class_made, statement, block, handler}
+use Rattle.py_meaning.specs.Statements.{assign, assign_each, assign_all, augment, delete, delete_each, body_ended, with_else, else_behind, while_turn, for_turn, returns, ends_again, pending, finishing, tries, caught, leaving, with_manager, raise, reraise, fails, decorators, decorated, class_made, statement, block, handler}
 use Rattle.py_meaning.specs.Bodies.{collect_turn, turns, ranges, collects, body_row, cell_filled, with_cells, code_row}
 use Rattle.py_meaning.proofs.DirectExpressions.{op_direct, yields_direct, uses_direct, load_direct, store_direct, unbind_direct, unless_direct, bare_direct, expression_direct, each_direct}
 
@@ -85,15 +85,15 @@ for_direct : (l : L) (line : ℕ) (iterator : Value) (t : syntax.Target) (body :
 for_direct l line iterator t body h =
     unless_direct l line _ _ _ (op_direct l line _ _) (λ v. then_direct _ _ (value_direct _ _ (assign_direct l v t) (λ w. h)) body_direct) (λ x. act_direct _)
 
-goes_on_direct : (e : End) → Direct (goes_on e)
-goes_on_direct (Raised x) = act_direct _
-goes_on_direct e = act_direct _
+ends_again_direct : (e : End) → Direct (ends_again e)
+ends_again_direct (Raised x) = act_direct _
+ends_again_direct e = act_direct _
 
 returns_direct : (v : Value) → Direct (returns v)
 returns_direct v = act_direct _
 
 pending_direct : (e d : End) → Direct (pending e d)
-pending_direct e (Next v) = goes_on_direct e
+pending_direct e (Next v) = ends_again_direct e
 pending_direct e d = act_direct _
 
 finishing_direct : (r : R) → Direct r → (e : End) → Direct (finishing r e)

@@ -1,5 +1,5 @@
 -- What bodies do: those of modules, functions and classes, of lambdas and of comprehensions; and the language that they make up.
-use Rattle.std.specs.Prelude.{ℕ, List, [], ◌∷◌, ◌++◌, map, length, replicate, ◌-◌, Option, Some, None, nat_le, ◌&&◌, if◌then◌else◌, slice_get, take}
+use Rattle.std.specs.Prelude.{ℕ, Bool, List, [], ◌∷◌, ◌++◌, map, length, replicate, ◌-◌, Option, Some, None, nat_le, ◌&&◌, if◌then◌else◌, slice_get, take}
 use Rattle.nu_run.specs.Runs.{Run}
 use Rattle.nu_value.specs.declared.value.Value.{Value}
 use Rattle.nu_value.specs.declared.value.Value.TheVariants as value
@@ -7,7 +7,7 @@ use Rattle.op_forms.specs.declared.op.Op.{Op}
 use Rattle.op_forms.specs.declared.op.Op.TheVariants as op
 use Rattle.nu_rows.specs.Rows.{Leave, Undefined, Loop}
 use Rattle.nu_rows.specs.Words.{then_value, ends_with, choose}
-use Rattle.nu_calls.specs.Calls.{operate, yields}
+use Rattle.nu_calls.specs.Calls.{of_kind, operate, yields}
 use Rattle.op_forms.specs.Rules.{Rules}
 use Rattle.nu_calls.specs.Scripts.{Program, program_run}
 use Rattle.py_meaning.specs.Syntax as syntax
@@ -74,12 +74,12 @@ item_row l codes (CollectTurn line into iterator target inner) =
     Loop (collect_turn l line iterator target (turns l line into inner)) (CollectTurn line into iterator target inner)
 item_row l codes (DelegateTurn line iterator) = delegate_loop l line iterator
 
--- a code begins where there is a value for each of its parameters, and a cell for each that it has of enclosing functions; its other
--- local variables are Unset
-abbrev pub begun_frame : ℕ → List Value → List Value → Option syntax.Code → Option Frame
-begun_frame code given cells None = None
-begun_frame code given cells (Some c) =
-    if nat_le (length c.header.params) (length given) && nat_le c.frees (length cells)
+-- a code of the kind that is asked for begins where there is a value for each of its parameters, and a cell for each that it has of
+-- enclosing functions; its other local variables are Unset
+abbrev pub begun_frame : Bool → ℕ → List Value → List Value → Option syntax.Code → Option Frame
+begun_frame kind code given cells None = None
+begun_frame kind code given cells (Some c) =
+    if of_kind kind c.header.generator && (nat_le (length c.header.params) (length given) && nat_le c.frees (length cells))
     then Some (record { code = code; locals = take (length c.header.params) given ++ replicate (c.locals - length c.header.params) value.Unset; owns = []; frees = take c.frees cells; carried = value.None })
     else None
 
@@ -88,7 +88,7 @@ language rules scripts codes = record {
   rules = rules;
   scripts = scripts;
   body = OfCode;
-  frame = λ code given cells. begun_frame code given cells (slice_get codes code);
+  frame = λ kind code given cells. begun_frame kind code given cells (slice_get codes code);
   code = λ f. f.code;
 }
 

@@ -49,15 +49,15 @@ next l line iterator = operate l line op.Next (iterator ∷ [])
 -- `yield from` (reference, section 6.2.9; PEP 380)
 
 -- the inner iterator gave a value, which is yielded in the next turn
-abbrev pub delegates : Value → R
-delegates v = changes (with_carried v)
+abbrev pub passes_on : Value → R
+passes_on v = changes (with_carried v)
 
 -- it is exhausted: the loop ends, and carries the exception that has the value
 abbrev pub delegated : ℕ → R
 delegated x = then_value (changes (with_carried (value.Obj x))) (λ v. ends_with (Leave 0))
 
 abbrev pub resumes : L → ℕ → R → R
-resumes l line r = unless_stopped l line r delegates delegated
+resumes l line r = unless_stopped l line r passes_on delegated
 
 -- one row or another, by whether a value is None
 abbrev pub told : L → ℕ → Value → R → R → R
@@ -70,8 +70,8 @@ sends l line iterator v =
     (then_value (operate l line op.Attr (iterator ∷ text (codes "send") ∷ [])) (λ send. resumes l line (operate l line op.Call (send ∷ v ∷ []))))
 
 -- GeneratorExit: the inner iterator is closed, where it can be
-abbrev pub closes : L → ℕ → ℕ → Value → R
-closes l line x close = told l line close (raise_again x) (then_value (operate l line op.Call (close ∷ [])) (λ v. raise_again x))
+abbrev pub closes_inner : L → ℕ → ℕ → Value → R
+closes_inner l line x close = told l line close (raise_again x) (then_value (operate l line op.Call (close ∷ [])) (λ v. raise_again x))
 
 -- another exception: it is thrown into the inner iterator, where that can be
 abbrev pub throws : L → ℕ → ℕ → Value → R
@@ -80,7 +80,7 @@ throws l line x throw = told l line throw (raise_again x) (resumes l line (opera
 abbrev pub thrown : L → ℕ → Value → ℕ → R
 thrown l line iterator x =
     then_value (is_one_of l line (codes "GeneratorExit") x) (λ b. choose b
-    (then_value (operate l line op.Find (iterator ∷ text (codes "close") ∷ [])) (closes l line x))
+    (then_value (operate l line op.Find (iterator ∷ text (codes "close") ∷ [])) (closes_inner l line x))
     (then_value (operate l line op.Find (iterator ∷ text (codes "throw") ∷ [])) (throws l line x)))
 
 abbrev pub woken : L → ℕ → Value → End → R

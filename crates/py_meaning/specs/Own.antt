@@ -161,8 +161,8 @@ abbrev mutual
 
 -- Statements
 
-abbrev pub raises : List Own
-raises = bare op.Exc ++ bare op.Raise
+abbrev pub raise_operations : List Own
+raise_operations = bare op.Exc ++ bare op.Raise
 
 -- the name of an `except` clause: bound, set to None and deleted
 abbrev pub caught : Option syntax.Caught → List Own
@@ -188,9 +188,9 @@ abbrev mutual
   statement syntax.Break = []
   statement syntax.Continue = []
   statement (syntax.Return x) = expression x
-  statement (syntax.Raise line x) = expression x ++ raises
+  statement (syntax.Raise line x) = expression x ++ raise_operations
   statement syntax.Reraise = []
-  statement (syntax.Assert line test texts) = expression test ++ each texts ++ bare op.Call ++ raises
+  statement (syntax.Assert line test texts) = expression test ++ each texts ++ bare op.Call ++ raise_operations
   statement (syntax.If line test body other) = expression test ++ block body ++ block other
   statement (syntax.While line test body other) = expression test ++ block body ++ block other
   statement (syntax.For line target over body other) = expression over ++ bare op.Iter ++ bare op.Next ++ assigned target ++ block body ++ block other

@@ -112,12 +112,12 @@ for_turn l line iterator target body =
 -- `try` and `finally` (reference, section 8.4)
 
 -- the end that was pending goes on, where the clause ends by itself; any other end of the clause takes its place
-abbrev pub goes_on : End → R
-goes_on (Raised x) = raise_again x
-goes_on e = ends_with e
+abbrev pub ends_again : End → R
+ends_again (Raised x) = raise_again x
+ends_again e = ends_with e
 
 abbrev pub pending : End → End → R
-pending e (Next v) = goes_on e
+pending e (Next v) = ends_again e
 pending e other = ends_with other
 
 -- a clause that always runs; a stop ends all

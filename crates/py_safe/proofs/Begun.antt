@@ -168,7 +168,7 @@ module _ (z : Program) (tabs : Tables) where
         let a' : Scene = with_state a g gen.Running in
         begins_met IsThere a x (record { scene = a'; begun = Starts g code given cells })
         (started_met z tabs M agree b le r h s marks a' (reached_state z tabs r h s marks a g gen.Running (λ e. absurd (cc)) x) g code k.code_of.is given cells
-        (begins_more z (view a.world.heap marks) (view a'.world.heap marks) code k.code_of.is given cells t.grows k.begins) (t.grows.natures g (slice_get_within a.world.heap g _ e) ∙ ap nature_of e))
+        (begins_more z (view a.world.heap marks) (view a'.world.heap marks) code k.code_of.is given cells t.grows k.begins) k.code_of.kind (t.grows.natures g (slice_get_within a.world.heap g _ e) ∙ ap nature_of e))
     fresh_met a x g code given cells e (how.Send value.Unset) y = type_met a x
     fresh_met a x g code given cells e (how.Send (value.Bool v)) y = type_met a x
     fresh_met a x g code given cells e (how.Send (value.Int v)) y = type_met a x

@@ -164,18 +164,18 @@ module _ (z : Program) (tabs : Tables) where
             kept = x.lawful.kept;
           }) (from_nothing (view a.world.heap marks)) b le
 
-      pub called_met : (a : Scene) → Reached z tabs r h s marks a → (code : ℕ) (c : syntax.Code) (given cells : List Value) (K : Kind) (after : After) → Begins z (view a.world.heap marks) code c given cells → c.header.generator ≡ false → AfterLaw (view a.world.heap marks) after → FinishGives z K (view a.world.heap marks) after → Met z tabs r 0 K nowhere h (entered (run (rows z) b) (calls (source z) (in_scene s a) code after (begun_frame code given cells (slice_get z.codes code))))
+      pub called_met : (a : Scene) → Reached z tabs r h s marks a → (code : ℕ) (c : syntax.Code) (given cells : List Value) (K : Kind) (after : After) → Begins z (view a.world.heap marks) code c given cells → c.header.generator ≡ false → AfterLaw (view a.world.heap marks) after → FinishGives z K (view a.world.heap marks) after → Met z tabs r 0 K nowhere h (entered (run (rows z) b) (calls (source z) (in_scene s a) code after (begun_frame false code given cells (slice_get z.codes code))))
       called_met a x code c given cells K after k no_generator l gives =
           let v = view a.world.heap marks in
           let never : IsTrue (room_at z code).yields → ⊥ = λ y. absurd (let e = yields_as z code c k.coded in let t : (room_at z code).yields ≡ true = y in cc) in
-          subst (λ o. Met z tabs r 0 K nowhere h (entered (run (rows z) b) (calls (source z) (in_scene s a) code after o))) (sym (begun_frame_is z v code c given cells k))
+          subst (λ o. Met z tabs r 0 K nowhere h (entered (run (rows z) b) (calls (source z) (in_scene s a) code after o))) (sym (begun_frame_is z v false code c given cells no_generator k))
           (met_down z tabs r 0 K nowhere h v _ x.grows
           (left_call r (room_at z code) (tabs code) v v s.frame K after _ x.lawful.frame l gives never (grows_refl v) (begun_done a x code c given cells k)))
 
-      pub started_met : (a : Scene) → Reached z tabs r h s marks a → (g code : ℕ) (c : syntax.Code) (given cells : List Value) → Begins z (view a.world.heap marks) code c given cells → nature_of (slice_get a.world.heap g) ≡ AGenerator code → Met z tabs r 0 IsThere nowhere h (entered (run (rows z) b) (starts (source z) (in_scene s a) g code (begun_frame code given cells (slice_get z.codes code))))
-      started_met a x g code c given cells k is =
+      pub started_met : (a : Scene) → Reached z tabs r h s marks a → (g code : ℕ) (c : syntax.Code) (given cells : List Value) → Begins z (view a.world.heap marks) code c given cells → c.header.generator ≡ true → nature_of (slice_get a.world.heap g) ≡ AGenerator code → Met z tabs r 0 IsThere nowhere h (entered (run (rows z) b) (starts (source z) (in_scene s a) g code (begun_frame true code given cells (slice_get z.codes code))))
+      started_met a x g code c given cells k generator is =
           let v = view a.world.heap marks in
-          subst (λ o. Met z tabs r 0 IsThere nowhere h (entered (run (rows z) b) (starts (source z) (in_scene s a) g code o))) (sym (begun_frame_is z v code c given cells k))
+          subst (λ o. Met z tabs r 0 IsThere nowhere h (entered (run (rows z) b) (starts (source z) (in_scene s a) g code o))) (sym (begun_frame_is z v true code c given cells generator k))
           (met_down z tabs r 0 IsThere nowhere h v _ x.grows
           (left_generator r v s.frame g code x.lawful.frame is false _ (begun_done a x code c given cells k)))
 

@@ -8,7 +8,7 @@ use Rattle.nu_rows.specs.Rows.{End, Next, Leave, Raised, Return, Stopped, Undefi
 use Rattle.nu_rows.specs.Words.{ends_with, then_value}
 use Rattle.nu_calls.specs.Calls.{operate}
 use Rattle.py_meaning.specs.Frames.{R as Rw, text}
-use Rattle.py_meaning.specs.Statements.{returns, body_ended, exhausted, else_behind, with_else, goes_on, pending, finishing, leaves_by, leaving, with_manager}
+use Rattle.py_meaning.specs.Statements.{returns, body_ended, exhausted, else_behind, with_else, ends_again, pending, finishing, leaves_by, leaving, with_manager}
 use Rattle.py_safe.specs.Heaps.{View, Grows, IsThere, AllThere, IsThrown}
 use Rattle.py_safe.specs.Rules.{IsTruth}
 use Rattle.py_safe.specs.Constructs.{Room}
@@ -58,7 +58,7 @@ module _ (z : Program) (r : Room) where
 
   -- Clauses that run whatever the end
 
-  went_on : (n : ℕ) (g : View) (e : End) → EndIs n Anything g e → RightBy z r r n Anything g (goes_on e)
+  went_on : (n : ℕ) (g : View) (e : End) → EndIs n Anything g e → RightBy z r r n Anything g (ends_again e)
   went_on n g (Raised x) y = again_right z r n Anything g x y
   went_on n g (Next x) y = pass_right z r n g (Next x) y
   went_on n g (Leave i) y = pass_right z r n g (Leave i) y

@@ -7,7 +7,7 @@ use Rattle.op_forms.specs.declared.op.Op.TheVariants as op
 use Rattle.nu_rows.specs.Rows.{End, Next, Leave, Raised, Return, Stopped, Undefined}
 use Rattle.nu_calls.specs.Calls.{operate, yields}
 use Rattle.py_meaning.specs.Frames.{Frame, DelegateTurn, R as Rw, used, uses, changes, with_carried, text, reads}
-use Rattle.py_meaning.specs.Expressions.{next, resumes, told, sends, closes, throws, thrown, woken, delegate_turn, delegate_loop, delegate, delegates, delegated}
+use Rattle.py_meaning.specs.Expressions.{next, resumes, told, sends, closes_inner, throws, thrown, woken, delegate_turn, delegate_loop, delegate, passes_on, delegated}
 use Rattle.py_safe.specs.Heaps.{View, Grows, IsThere, IsThrown}
 use Rattle.py_safe.specs.Rules.{IsTruth}
 use Rattle.py_safe.specs.Constructs.{Room}
@@ -81,7 +81,7 @@ module _ (z : Program) (r : Room) where
   -- the inner iterator goes on
   resumes_right : (v : View) (line : ℕ) (row : Rw) → RightBy z r r 0 There v row → RightBy z r r 1 Anything v (resumes (source z) line row)
   resumes_right v line row x =
-      unless_right z r 0 1 There Anything v line row delegates delegated (omega arith) x
+      unless_right z r 0 1 There Anything v line row passes_on delegated (omega arith) x
       (λ y g w a. carry_right 1 g y a)
       (λ e g w a. value_right z r 1 1 Anything Anything g _ _ (omega arith) (carry_right 1 g (value.Obj e) (thrown_there g e a)) (λ u g' w' b. pass_right z r 1 g' (Leave 0) (omega arith)))
 
@@ -98,7 +98,7 @@ module _ (z : Program) (r : Room) where
       (λ g w. resumes_right g line _ (next_right g line iterator (there_more v g w iterator p)))
       (λ g w. value_right z r 0 1 There Anything g _ _ (omega arith) (attribute_right g line iterator (codes "send") (there_more v g w iterator p)) (λ f g' w' a. resumes_right g' line _ (call_one g' line f x a (there_more g g' w' x (there_more v g w x q)))))
 
-  closed_right : (v : View) (line x : ℕ) (close : Value) → IsThrown v x → IsThere v close → RightBy z r r 1 Anything v (closes (source z) line x close)
+  closed_right : (v : View) (line x : ℕ) (close : Value) → IsThrown v x → IsThere v close → RightBy z r r 1 Anything v (closes_inner (source z) line x close)
   closed_right v line x close a p =
       told_right v line close _ _ p
       (λ g w. again_right z r 1 Anything g x (thrown_more v g w x a))

@@ -1,5 +1,5 @@
 -- The frames with which bodies begin.
-use Rattle.std.proofs.Common.{◌≡◌, ℕ, zero, suc, ◌<◌, ◌-◌, List, [], ◌∷◌, ◌++◌, Option, Some, None, Bool, true, if◌then◌else◌, refl, sym, ap, subst, ◌∙◌, arith, length, length-append, map, replicate, take}
+use Rattle.std.proofs.Common.{◌≡◌, ℕ, zero, suc, ◌<◌, ◌-◌, List, [], ◌∷◌, ◌++◌, Option, Some, None, Bool, true, false, if◌then◌else◌, refl, sym, ap, subst, ◌∙◌, arith, length, length-append, map, replicate, take}
 use Rattle.std.specs.Prelude.{IsTrue, ◌&&◌, nat_le, slice_get}
 use Rattle.std.proofs.lemmas.Bool.Decides.{nat_tests}
 use Rattle.std.proofs.lemmas.List.{take_all, length-replicate}
@@ -9,6 +9,7 @@ use Rattle.nu_value.specs.declared.object.Object.TheVariants as object
 use Rattle.nu_value.specs.declared.value.Value.{Value}
 use Rattle.nu_value.specs.declared.value.Value.TheVariants as value
 use Rattle.op_forms.specs.Sound.{ASpace as SpaceSort, sort_of, AreCells}
+use Rattle.nu_calls.specs.Calls.{of_kind}
 use Rattle.py_meaning.specs.Syntax as syntax
 use Rattle.py_meaning.specs.Frames.{Frame, at}
 use Rattle.py_meaning.specs.Bodies.{begun_frame}
@@ -98,22 +99,27 @@ begun_of code given cells c = record {
   carried = value.None;
 }
 
-abbrev frame_if : ℕ → syntax.Code → Bool → Bool → List Value → List Value → Option Frame
-frame_if code c enough more given cells =
-    if enough && more
+abbrev frame_if : ℕ → syntax.Code → Bool → Bool → Bool → List Value → List Value → Option Frame
+frame_if code c is enough more given cells =
+    if is && (enough && more)
     then Some (record { code = code; locals = given ++ replicate (c.locals - length c.header.params) value.Unset; owns = []; frees = cells; carried = value.None })
     else None
 
-pub begun_is : (code : ℕ) (given cells : List Value) (c : syntax.Code) → length given ≡ length c.header.params → length cells ≡ c.frees → begun_frame code given cells (Some c) ≡ Some (begun_of code given cells c)
-begun_is code given cells c count frees =
+own_kind : (kind : Bool) → of_kind kind kind ≡ true
+own_kind true = refl
+own_kind false = refl
+
+pub begun_is : (kind : Bool) (code : ℕ) (given cells : List Value) (c : syntax.Code) → c.header.generator ≡ kind → length given ≡ length c.header.params → length cells ≡ c.frees → begun_frame kind code given cells (Some c) ≡ Some (begun_of code given cells c)
+begun_is kind code given cells c generator count frees =
     let enough : nat_le (length c.header.params) (length given) ≡ true = grind (arith, nat_tests) in
     let more : nat_le c.frees (length cells) ≡ true = grind (arith, nat_tests) in
     let all : take (length c.header.params) given ≡ given = take_all (length c.header.params) given (omega (arith, count)) in
     let each : take c.frees cells ≡ cells = take_all c.frees cells (omega (arith, frees)) in
-    ap (λ b. frame_if code c b (nat_le c.frees (length cells)) (take (length c.header.params) given) (take c.frees cells)) enough
-    ∙ (ap (λ b. frame_if code c true b (take (length c.header.params) given) (take c.frees cells)) more
-    ∙ (ap (λ xs. frame_if code c true true xs (take c.frees cells)) all
-    ∙ ap (λ xs. frame_if code c true true given xs) each))
+    ap (λ b. frame_if code c b (nat_le (length c.header.params) (length given)) (nat_le c.frees (length cells)) (take (length c.header.params) given) (take c.frees cells)) (ap (of_kind kind) generator ∙ own_kind kind)
+    ∙ (ap (λ b. frame_if code c true b (nat_le c.frees (length cells)) (take (length c.header.params) given) (take c.frees cells)) enough
+    ∙ (ap (λ b. frame_if code c true true b (take (length c.header.params) given) (take c.frees cells)) more
+    ∙ (ap (λ xs. frame_if code c true true true xs (take c.frees cells)) all
+    ∙ ap (λ xs. frame_if code c true true true given xs) each)))
 
 space_nature : (o : Option Object) → sort_of o ≡ SpaceSort → nature_of o ≡ ASpace
 space_nature (Some (object.Space names)) e = refl
@@ -150,8 +156,8 @@ begun_law z v code c given cells b =
       carried = (tt, tt);
     })
 
-pub begun_frame_is : (z : Program) (v : View) (code : ℕ) (c : syntax.Code) (given cells : List Value) → Begins z v code c given cells → begun_frame code given cells (slice_get z.codes code) ≡ Some (begun_of code given cells c)
-begun_frame_is z v code c given cells b = ap (λ o. begun_frame code given cells o) b.coded ∙ begun_is code given cells c b.count b.frees
+pub begun_frame_is : (z : Program) (v : View) (kind : Bool) (code : ℕ) (c : syntax.Code) (given cells : List Value) → c.header.generator ≡ kind → Begins z v code c given cells → begun_frame kind code given cells (slice_get z.codes code) ≡ Some (begun_of code given cells c)
+begun_frame_is z v kind code c given cells e b = ap (λ o. begun_frame kind code given cells o) b.coded ∙ begun_is kind code given cells c e b.count b.frees
 
 -- of a function that is asked, its role allows what it is given
 pub names_given : (z : Program) (v : View) (code : ℕ) (c : syntax.Code) (given : List Value) → GivenAs v (z.role code) given → IsTrue (is_class (z.role code)) → IsOf v.heap ASpace (at (given ++ replicate (c.locals - length c.header.params) value.Unset) 0)

@@ -12,11 +12,11 @@ use Rattle.nu_value.specs.Pairs.{PairList}
 use Rattle.op_forms.specs.declared.end.After.{After}
 use Rattle.op_forms.specs.declared.end.After.TheVariants as behind
 use Rattle.op_forms.specs.Fits.{is_in}
-use Rattle.op_forms.specs.Sound.{Sort, ADict as DictSort, AFunction as FunctionSort, AClass as ClassSort, AGenerator as GeneratorSort, ACell as CellSort, ASpace as SpaceSort, AnException, Another as OtherSort, sort_of, IsA, IsIn, MayBeIn, AllIn, IsCell, AreCells, NamesIn, PairsIn, BaseIn, ObjectIn}
+use Rattle.op_forms.specs.Sound.{Sort, ADict as DictSort, AFunction as FunctionSort, AClass as ClassSort, AGenerator as GeneratorSort, ACell as CellSort, ASpace as SpaceSort, AnException, Another as OtherSort, sort_of, IsA, IsIn, MayBeIn, AllIn, IsCell, AreCells, NamesIn, PairsIn, BaseIn, CauseIn, ObjectIn}
 use Rattle.nu_rows.specs.Rows.{How, Send, Throw}
 use Rattle.nu_calls.specs.Calls.{Pause}
 use Rattle.py_meaning.specs.Frames.{Frame, at}
-use Rattle.py_safe.specs.Heaps.{Mark, View, Nature, ADict, AFunction, AClass, AGenerator, ACell, ASpace, AnError, Another, nature_of, Grows, IsOpen, AllOpen, NamesOpen, PairsOpen, BaseOpen, ObjectOpen, IsThere, AllThere, IsThrown}
+use Rattle.py_safe.specs.Heaps.{Mark, View, Nature, ADict, AFunction, AClass, AGenerator, ACell, ASpace, AnError, Another, nature_of, Grows, IsOpen, AllOpen, NamesOpen, PairsOpen, IfAnyOpen, ObjectOpen, IsThere, AllThere, IsThrown}
 use Rattle.py_safe.specs.Rules.{IsOf, AfterLaw}
 use Rattle.py_safe.specs.Constructs.{Room}
 use Rattle.py_safe.proofs.Right.{Program, Tables, MayBeThere, AllMaybe, FrameLaw, IsKept, HowIs}
@@ -294,6 +294,10 @@ base_more v more g n native None p = tt
 base_more v more g n true (Some b) p = is_a_more v more g b _ p
 base_more v more g n false (Some b) p = (is_a_more v more g b _ p.0, p.1)
 
+cause_more : (v more : View) → Grows v more → (c : Option ℕ) → CauseIn v.heap c → CauseIn more.heap c
+cause_more v more g None p = tt
+cause_more v more g (Some c) p = is_a_more v more g c _ p
+
 pub object_more : (codes : ℕ) (v more : View) → Grows v more → (n : ℕ) (o : Object) → ObjectIn codes v.heap n o → ObjectIn codes more.heap n o
 object_more codes v more g n (object.Tuple items) p = all_in_more v more g items p
 object_more codes v more g n (object.List items) p = all_in_more v more g items p
@@ -311,7 +315,7 @@ object_more codes v more g n (object.View dict kind) p = is_a_more v more g dict
 object_more codes v more g n (object.Cell x) p = may_be_in_more v more g x p
 object_more codes v more g n (object.Space names) p = names_more v more g names p
 object_more codes v more g n (object.Exception class args entries fields cause) p =
-    (is_a_more v more g class _ p.0, all_in_more v more g args p.1, names_more v more g fields p.2)
+    (is_a_more v more g class _ p.0, all_in_more v more g args p.1, names_more v more g fields p.2, cause_more v more g cause p.3)
 object_more codes v more g n (object.Builtin name receiver) p = may_be_in_more v more g receiver p
 object_more codes v more g n (object.Trace exception) p = is_a_more v more g exception _ p
 
@@ -328,10 +332,14 @@ pairs_open_more v more g [] p q = tt
 pairs_open_more v more g (x ∷ ps) p q =
     (open_more v more g x.1 p.0 q.0, open_more v more g x.2 p.1 q.1, pairs_open_more v more g ps p.3 q.2)
 
-base_open_more : (v more : View) → Grows v more → (n : ℕ) (native : Bool) (b : Option ℕ) → BaseIn v.heap n native b → BaseOpen v.marks b → BaseOpen more.marks b
+base_open_more : (v more : View) → Grows v more → (n : ℕ) (native : Bool) (b : Option ℕ) → BaseIn v.heap n native b → IfAnyOpen v.marks b → IfAnyOpen more.marks b
 base_open_more v more g n native None p q = tt
 base_open_more v more g n true (Some b) p q = g.marks b p.there ∙ q
 base_open_more v more g n false (Some b) p q = g.marks b p.0.there ∙ q
+
+cause_open_more : (v more : View) → Grows v more → (c : Option ℕ) → CauseIn v.heap c → IfAnyOpen v.marks c → IfAnyOpen more.marks c
+cause_open_more v more g None p q = tt
+cause_open_more v more g (Some c) p q = g.marks c p.there ∙ q
 
 pub object_open_more : (codes : ℕ) (v more : View) → Grows v more → (n : ℕ) (o : Object) → ObjectIn codes v.heap n o → ObjectOpen v.marks o → ObjectOpen more.marks o
 object_open_more codes v more g n (object.Tuple items) p q = all_open_more v more g items p q
@@ -351,6 +359,6 @@ object_open_more codes v more g n (object.View dict kind) p q = g.marks dict p.t
 object_open_more codes v more g n (object.Cell x) p q = may_be_open v more g x p q
 object_open_more codes v more g n (object.Space names) p q = names_open_more v more g names p q
 object_open_more codes v more g n (object.Exception class args entries fields cause) p q =
-    (g.marks class p.0.there ∙ q.0, all_open_more v more g args p.1 q.1, names_open_more v more g fields p.2 q.2)
+    (g.marks class p.0.there ∙ q.0, all_open_more v more g args p.1 q.1, names_open_more v more g fields p.2 q.2, cause_open_more v more g cause p.3 q.3)
 object_open_more codes v more g n (object.Builtin name receiver) p q = may_be_open v more g receiver p q
 object_open_more codes v more g n (object.Trace exception) p q = g.marks exception p.there ∙ q

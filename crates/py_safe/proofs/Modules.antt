@@ -1,5 +1,5 @@
 -- Runs of modules: how they begin and end.
-use Rattle.std.proofs.Common.{◌≡◌, ℕ, List, [], Some, Bool, true, false, sym, ap, ◌∙◌, subst, arith, length}
+use Rattle.std.proofs.Common.{◌≡◌, ℕ, List, [], Some, Bool, true, false, refl, sym, ap, ◌∙◌, subst, arith, length}
 use Rattle.std.specs.Prelude.{IsTrue, slice_get}
 use Rattle.nu_value.specs.declared.value.Value.TheVariants as value
 use Rattle.nu_rows.specs.Rows.{End, Next, Leave, Raised, Return, Stopped, Undefined, Step, Second, Begin, Res, Spent, Paused, Ended, Act, Then, shift, after, does}
@@ -50,6 +50,10 @@ shown_after z v (Spent o) g x f = tt
 shown_after z v (Paused o s y p) g x f = absurd x
 shown_after z v (Ended o s e) g x f = shown_shift o (Second e) (g e s) (f e s x)
 
+none_is : (b : Bool) → IsFalse b → b ≡ false
+none_is true p = absurd p
+none_is false p = refl
+
 module _ (z : Program) (code : ℕ) (c : syntax.Code) (at : slice_get z.codes code ≡ Some c) (role : z.role code ≡ OfModule) where
   runs_as : RunAs OfModule c
   runs_as = subst (λ i. RunAs i c) role (lawful_code z code c at).run
@@ -86,10 +90,10 @@ module _ (z : Program) (code : ℕ) (c : syntax.Code) (at : slice_get z.codes co
         kept = r.kept;
       }) (from_nothing (seen r.marks s)) m (omega arith)))
 
-  begun_over : (s : S) (r : Ready z s) (m : ℕ) → Over z (seen r.marks s) (does (rows z) (Then (Act (λ s. module_begun (source z) code s ((source z).frame code [] []))) (on_next (λ v. code_row (source z) (slice_get z.codes code)))) Begin s m)
+  begun_over : (s : S) (r : Ready z s) (m : ℕ) → Over z (seen r.marks s) (does (rows z) (Then (Act (λ s. module_begun (source z) code s ((source z).frame false code [] []))) (on_next (λ v. code_row (source z) (slice_get z.codes code)))) Begin s m)
   begun_over s r m =
       subst (λ o. Over z (seen r.marks s) (does (rows z) (Then (Act (λ s. module_begun (source z) code s o)) (on_next (λ v. code_row (source z) (slice_get z.codes code)))) Begin s m))
-      (sym (begun_frame_is z (seen r.marks s) code c [] [] (begins (seen r.marks s))))
+      (sym (begun_frame_is z (seen r.marks s) false code c [] [] (none_is c.header.generator runs_as.2) (begins (seen r.marks s))))
       (over_shift z (seen r.marks s) [] (Second (Next value.None)) _ (body_over s r m))
 
   ended_shown : (file : List ℕ) (next : Rw) → ((t : S) → Ready z t → (m : ℕ) → Shown (does (rows z) next Begin t m)) → (v : View) (m : ℕ) (e : End) (t : S) → Finished z (tables z) v e t → Shown (does (rows z) (module_ended (source z) file next e) Begin t m)

@@ -58,7 +58,7 @@ new_exception c w marks l n args a m p =
     let x : Object = object.Exception n args [] [] None in
     record {
       follows = record {
-        law = world_end c w marks l x (a, all_in (view w.heap marks) args p, tt) (m, all_open (view w.heap marks) args p, tt) tt;
+        law = world_end c w marks l x (a, all_in (view w.heap marks) args p, tt, tt) (m, all_open (view w.heap marks) args p, tt, tt) tt;
         grows = grows_end w.heap marks x;
         generators = keeps_end w.heap x tt;
       };

@@ -150,7 +150,7 @@ module _ (z : Program) (h : View) where
     begins_replied : (code : ℕ) (given cells : List Value) (after : After) → Begun z (view a.world.heap marks) code false given cells → AfterLaw (view a.world.heap marks) after → (full : Bool) → Replied (entered (run (rows z) m) (report_began (source z) s (if full then over (ending a (Stops stop.Depth)) else record { scene = a; begun = Calls code given cells after })))
     begins_replied code given cells after k l true = tt
     begins_replied code given cells after k l false =
-        called_replied m (in_scene s a) code after (begun_frame code given cells (slice_get z.codes code))
+        called_replied m (in_scene s a) code after (begun_frame false code given cells (slice_get z.codes code))
         (called_met z (tables z) m (agree z m) m (omega arith) no_room h (bare s) marks a x code k.code_of.is given cells Anything after k.begins k.code_of.kind l (λ w more y u g g' e d. tt))
 
     function_replied : (f : ℕ) (given : List Value) (after : After) (o : Option Object) → slice_get a.world.heap f ≡ o → MayBegin (roster z) (view a.world.heap marks) o given → AfterLaw (view a.world.heap marks) after → Replied (entered (run (rows z) m) (report_began (source z) s (asked a o given after)))

@@ -111,12 +111,9 @@ module _ (z : Program) (tabs : Tables) where
       reached_goes r h s marks (with_heap a made.heap) K (Raised made.exception) (reached_with r h s marks a made.heap x t.follows) t.is
 
   -- a class that no script makes is raised
-  pub native_comes : (r : Room) (h : View) (s : S) (marks : ℕ → Mark) (a : Scene) (K : Kind) (n : ℕ) (args : List Value) → Reached r h s marks a → n < 37 → AllThere (view a.world.heap marks) args → Comes r h s K (raises a n args)
+  pub native_comes : (r : Room) (h : View) (s : S) (marks : ℕ → Mark) (a : Scene) (K : Kind) (n : ℕ) (args : List Value) → Reached r h s marks a → n < length native_classes → AllThere (view a.world.heap marks) args → Comes r h s K (raises a n args)
   native_comes r h s marks a K n args x less p =
-      raises_comes r h s marks a K n args x (native_raises (roster z) a.world marks x.lawful.world n (natives_count n less)) p
-    where
-      natives_count : (n : ℕ) → n < 37 → n < length native_classes
-      natives_count n less = less
+      raises_comes r h s marks a K n args x (native_raises (roster z) a.world marks x.lawful.world n less) p
 
   once_comes : (r : Room) (h : View) (s : S) (marks : ℕ → Mark) (a : Scene) (K : Kind) (e : OpEnd) → Reached r h s marks a → EndLaw (roster z) (view a.world.heap marks) e → IsAtOnce e → ((v : Value) → e ≡ opend.Give v → IsThere (view a.world.heap marks) v → K (view a.world.heap marks) v) → Comes r h s K (at_once a e)
   once_comes r h s marks a K (opend.Give v) x l o f = reached_goes r h s marks a K (Next v) x (f v refl l)
@@ -185,7 +182,7 @@ module _ (z : Program) (tabs : Tables) where
   returned_comes r h s marks a (value.Str text) x y = native_comes r h s marks a IsThere stop_iteration (value.Str text ∷ []) x (omega arith) (y, tt)
   returned_comes r h s marks a (value.Obj n) x y = native_comes r h s marks a IsThere stop_iteration (value.Obj n ∷ []) x (omega arith) (y, tt)
 
-  pub text_comes : (r : Room) (h : View) (s : S) (marks : ℕ → Mark) (a : Scene) (n : ℕ) (text : List ℕ) → Reached r h s marks a → n < 37 → Comes r h s IsThere (raises_text a n text)
+  pub text_comes : (r : Room) (h : View) (s : S) (marks : ℕ → Mark) (a : Scene) (n : ℕ) (text : List ℕ) → Reached r h s marks a → n < length native_classes → Comes r h s IsThere (raises_text a n text)
   text_comes r h s marks a n text x less = native_comes r h s marks a IsThere n (value.Str text ∷ []) x less ((tt, tt), tt)
 
   gave_comes : (r : Room) (h : View) (s : S) (marks : ℕ → Mark) (a : Scene) (closing : Bool) (v : Value) → Reached r h s marks a → IsThere (view a.world.heap marks) v → Comes r h s IsThere (generator_gave a closing v)

@@ -77,9 +77,10 @@ abbrev pub PairsOpen : (ℕ → Mark) → PairList → Type 0
 PairsOpen marks [] = Unit {0}
 PairsOpen marks (p ∷ ps) = IsOpen marks p.1 × IsOpen marks p.2 × PairsOpen marks ps
 
-abbrev pub BaseOpen : (ℕ → Mark) → Option ℕ → Type 0
-BaseOpen marks None = Unit {0}
-BaseOpen marks (Some base) = marks base ≡ Open
+-- the object of this number, if there is any
+abbrev pub IfAnyOpen : (ℕ → Mark) → Option ℕ → Type 0
+IfAnyOpen marks None = Unit {0}
+IfAnyOpen marks (Some number) = marks number ≡ Open
 
 abbrev pub ObjectOpen : (ℕ → Mark) → Object → Type 0
 ObjectOpen marks (object.Tuple items) = AllOpen marks items
@@ -88,14 +89,14 @@ ObjectOpen marks (object.Dict pairs) = PairsOpen marks pairs
 ObjectOpen marks (object.Range start stop step) = Unit {0}
 ObjectOpen marks (object.Function code defaults keywords cells) = AllOpen marks defaults × NamesOpen marks keywords × AllOpen marks cells
 ObjectOpen marks (object.Method receiver function) = IsOpen marks receiver × (marks function ≡ Open)
-ObjectOpen marks (object.Class name base own native) = BaseOpen marks base × NamesOpen marks own
+ObjectOpen marks (object.Class name base own native) = IfAnyOpen marks base × NamesOpen marks own
 ObjectOpen marks (object.Instance class fields) = (marks class ≡ Open) × NamesOpen marks fields
 ObjectOpen marks (object.Generator code state given cells) = AllOpen marks given × AllOpen marks cells
 ObjectOpen marks (object.Iterator over place size over_now) = IsOpen marks over
 ObjectOpen marks (object.View dict kind) = marks dict ≡ Open
 ObjectOpen marks (object.Cell v) = IsOpen marks v
 ObjectOpen marks (object.Space names) = NamesOpen marks names
-ObjectOpen marks (object.Exception class args entries fields cause) = (marks class ≡ Open) × AllOpen marks args × NamesOpen marks fields × BaseOpen marks cause
+ObjectOpen marks (object.Exception class args entries fields cause) = (marks class ≡ Open) × AllOpen marks args × NamesOpen marks fields × IfAnyOpen marks cause
 ObjectOpen marks (object.Builtin name receiver) = IsOpen marks receiver
 ObjectOpen marks (object.Trace exception) = marks exception ≡ Open
 

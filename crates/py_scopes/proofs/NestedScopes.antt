@@ -1,5 +1,5 @@
 -- Statements, and so scripts, keep scopes nested.
-use Rattle.std.proofs.Common.{ℕ, List, [], ◌∷◌, map, Option, Some, None, refl, sym, subst, arith}
+use Rattle.std.proofs.Common.{ℕ, Bool, List, [], ◌∷◌, map, Option, Some, None, refl, sym, subst, arith}
 use Rattle.py_ast.specs.declared.expr.Param.{Param}
 use Rattle.py_ast.specs.declared.expr.Param.TheVariants as param
 use Rattle.py_ast.specs.declared.expr.Expr.{Expr}
@@ -15,7 +15,7 @@ use Rattle.py_scopes.specs.declared.survey.What.{What}
 use Rattle.py_scopes.specs.declared.survey.What.TheVariants as what
 use Rattle.py_scopes.specs.declared.survey.Survey.{Survey}
 use Rattle.py_scopes.specs.Parts as parts
-use Rattle.py_scopes.specs.Survey.{Adds, all, enter, values, value, value_of, target, target_of, declared, branch_adds, manager_adds, handler_adds, looping, handling, finishing, bound_if, decorated, param_adds, expr, stmt, stmt_adds, stmts, own_name, top, surveyed}
+use Rattle.py_scopes.specs.Survey.{Adds, all, enter, values, value, value_of, target, target_of, declared, branch_adds, manager_adds, handler_adds, looping, handling, finishing, bound_if, decorated, param_adds, expr, stmt, stmt_adds, stmts, own_name, top, survey_of}
 use Rattle.py_scopes.specs.Resolve.{scopes_of}
 use Rattle.py_scopes.specs.Nested.{Nest, ScopesNest}
 use Rattle.py_scopes.proofs.Grown.{Fits, NestFrom, Keeps, KeepsIn, nothing, both, both_in, inner, outer, within, at_site, at_name, at_scope, filled_nest, nest}
@@ -116,17 +116,18 @@ stmts_keep (x ∷ xs) = both (stmt_keeps x) (stmts_keep xs)
 
 -- Scripts
 
-module_fits : Fits 0 (enter 1 kind.Module (own_name kind.Module) top (record { scopes = []; sites = [] }))
+module_fits : (built_in : Bool) → Fits 0 (enter 1 kind.Module (own_name kind.Module) top (record { built_in = built_in; scopes = []; sites = [] }))
 unfolding enter
-module_fits = record { below = omega arith; nested = (λ p. omega (arith, p), tt) }
+module_fits built_in = record { below = omega arith; nested = (λ p. omega (arith, p), tt) }
 
-survey_nests : (script : List Stmt) → NestFrom 0 (surveyed script).scopes
-unfolding surveyed
-survey_nests script = ((stmts_keep script).keeps 0 top _ module_fits module_fits).nested
+survey_nests : (built_in : Bool) (script : List Stmt) → NestFrom 0 (survey_of built_in script).scopes
+unfolding survey_of
+survey_nests built_in script = ((stmts_keep script).keeps 0 top _ (module_fits built_in) (module_fits built_in)).nested
 
 resolved_nest : (s : Survey) → NestFrom 0 s.scopes → NestFrom 0 (scopes_of s)
 unfolding scopes_of
 resolved_nest s a = filled_nest s s.sites 0 0 s.scopes a
 
 pub scopes_nest : ScopesNest
-scopes_nest script scoped a = subst (λ xs. Nest xs) (sym a.1.0) (nest _ (resolved_nest (surveyed script.statements) (survey_nests script.statements)))
+scopes_nest built_in script scoped a =
+    subst (λ xs. Nest xs) (sym a.1.0) (nest _ (resolved_nest (survey_of built_in script.statements) (survey_nests built_in script.statements)))

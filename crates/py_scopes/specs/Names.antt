@@ -1,8 +1,9 @@
--- Identifiers: mangling, names between double underscores, and the built-in names.
+-- Identifiers: mangling, names between double underscores, and the names that a module has without binding them.
 use Rattle.std.specs.Prelude.{ℕ, ◌==◌, nat_le, Bool, not, ◌&&◌, ◌||◌, if◌then◌else◌, List, [], ◌∷◌, ◌++◌, length, map, codes, nat_eq, Option, Some, None}
-use Rattle.std.specs.List.{list_any, starts_with, ends_with}
+use Rattle.std.specs.List.{starts_with, ends_with}
 use Rattle.std.specs.Str.{bytes_eq}
-use Rattle.py_scopes.specs.declared.names.TheConstants.{BUILT_IN, SPECIAL}
+use Rattle.nu_text.specs.Names.{is_among, built_in_names, text_natives}
+use Rattle.py_scopes.specs.declared.names.TheConstants.{SPECIAL}
 
 abbrev pub begins_double : List ℕ → Bool
 begins_double x = starts_with nat_eq x (codes "__")
@@ -32,21 +33,15 @@ abbrev pub mangled : Option (List ℕ) → List ℕ → List ℕ
 mangled (Some class) x = mangled_in class x
 mangled None x = x
 
-abbrev pub is_among : List (List ℕ) → List ℕ → Bool
-is_among table x = list_any (λ entry. bytes_eq entry x) table
-
 -- the written list of identifiers between double underscores
 unfoldable pub special : List (List ℕ)
 special = map (λ entry. entry.now) SPECIAL
-
--- the table of built-in names
-unfoldable pub built_in : List (List ℕ)
-built_in = map (λ entry. entry.now) BUILT_IN
 
 -- an identifier of five or more characters between double underscores that is not in the written list
 abbrev pub is_unwritten : List ℕ → Bool
 is_unwritten x = begins_double x && ends_double x && nat_le 5 (length x) && not (is_among special x)
 
--- a name that the module has without binding it: `__name__`, and the built-in names behind it
-abbrev pub is_given : List ℕ → Bool
-is_given x = bytes_eq x (codes "__name__") || is_among built_in x
+-- a name that the module has without binding it: `__name__`, the built-in names behind it, and in the built-in text the
+-- natives that only this text names
+abbrev pub is_given : Bool → List ℕ → Bool
+is_given built_in x = bytes_eq x (codes "__name__") || is_among built_in_names x || (built_in && is_among text_natives x)

@@ -1,4 +1,5 @@
--- What `resolve` answers for a script: its scopes with the homes of their names, or the rule that it breaks.
+-- What `resolve` answers for a script, and `resolve_built_in` for the built-in text: the scopes with the homes of their
+-- names, or the rule that it breaks.
 use Rattle.std.specs.Prelude.{ℕ, suc, Bool, true, false, ◌||◌, ◌==◌, ◌≡◌, if◌then◌else◌, List, [], ◌∷◌, ◌++◌, Option, Some, None, Result, Ok, Err}
 use Rattle.py_ast.specs.declared.scoped.NameHome.{NameHome}
 use Rattle.py_ast.specs.declared.scoped.Scope.{Scope}
@@ -10,7 +11,7 @@ use Rattle.py_scopes.specs.declared.survey.Site.{Site}
 use Rattle.py_scopes.specs.declared.survey.Survey.{Survey}
 use Rattle.py_scopes.specs.declared.end.ScopeEnd.{ScopeEnd}
 use Rattle.py_scopes.specs.declared.end.ScopeEnd.TheVariants as ends
-use Rattle.py_scopes.specs.Survey.{surveyed}
+use Rattle.py_scopes.specs.Survey.{survey_of}
 use Rattle.py_scopes.specs.Homes.{somewhere, occurs, home}
 use Rattle.py_scopes.specs.Rules.{variable, Refuses, KeepsAll}
 use Rattle.py_scopes.specs.Rules as rules
@@ -64,8 +65,15 @@ Resolves survey (Err (ends.Raise line)) = Refuses survey rules.Raise line
 Resolves survey (Err (ends.Repeat line)) = Refuses survey rules.Repeat line
 Resolves survey (Err ends.Memory) = ⊥
 
--- a script is resolved to itself with its scopes, or refused; want of memory says nothing
+-- a script, or the built-in text where it is marked so, is resolved to itself with its scopes, or refused; want of
+-- memory says nothing
+abbrev pub AnswersAs : Bool → Script → Result Scoped ScopeEnd → Type 0
+AnswersAs built_in script (Ok scoped) = (scoped.script ≡ script) × Resolves (survey_of built_in script.statements) (Ok scoped.scopes)
+AnswersAs built_in script (Err ends.Memory) = Unit {0}
+AnswersAs built_in script (Err end) = Resolves (survey_of built_in script.statements) (Err end)
+
 abbrev pub Answers : Script → Result Scoped ScopeEnd → Type 0
-Answers script (Ok scoped) = (scoped.script ≡ script) × Resolves (surveyed script.statements) (Ok scoped.scopes)
-Answers script (Err ends.Memory) = Unit {0}
-Answers script (Err end) = Resolves (surveyed script.statements) (Err end)
+Answers script = AnswersAs false script
+
+abbrev pub AnswersBuiltIn : Script → Result Scoped ScopeEnd → Type 0
+AnswersBuiltIn script = AnswersAs true script

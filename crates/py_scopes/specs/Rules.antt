@@ -103,7 +103,7 @@ binds_in_module survey x site = is_name x (module_name survey site.place.scope (
 
 -- the module has the name
 abbrev pub has_name : Survey → List ℕ → Bool
-has_name survey x = list_any (binds_in_module survey x) survey.sites || is_given x
+has_name survey x = list_any (binds_in_module survey x) survey.sites || is_given survey.built_in x
 
 abbrev pub is_unknown : Survey → ℕ → List ℕ → Bool
 is_unknown survey scope x = not (has_name survey x) && (home survey x scope == 0)

@@ -44,7 +44,7 @@ Part = Role → Adds
 
 -- one thing
 unfoldable pub site : ℕ → What → Adds
-site line what place s = record { scopes = s.scopes; sites = s.sites ++ (record { place = place; line = line; what = what }) ∷ [] }
+site line what place s = record { built_in = s.built_in; scopes = s.scopes; sites = s.sites ++ (record { place = place; line = line; what = what }) ∷ [] }
 
 -- one behind the other, all at the same place
 abbrev pub all : List Adds → Adds
@@ -89,6 +89,7 @@ is_generator_kind _ = false
 -- a new scope, without what stands in it
 unfoldable pub enter : ℕ → ScopeKind → List ℕ → Adds
 enter line kind name place s = record {
+  built_in = s.built_in;
   scopes = s.scopes ++ (record { kind = kind; name = name; line = line; enclosing = place.scope; is_generator = is_generator_kind kind; names = [] }) ∷ [];
   sites = s.sites;
 }
@@ -318,9 +319,14 @@ stmt = fold-Stmt Adds stmt_adds
 abbrev pub stmts : List Stmt → Adds
 stmts xs = all (map stmt xs)
 
--- the survey of a script: the module is scope 0
+-- The survey of a script: the module is scope 0
 abbrev pub top : Place
 top = record { scope = 0; class = None; in_loop = false; in_except = false }
 
-unfoldable pub surveyed : List Stmt → Survey
-surveyed script = stmts script top (enter 1 kind.Module (own_name kind.Module) top (record { scopes = []; sites = [] }))
+-- of a script, or of the built-in text where it is marked so
+unfoldable pub survey_of : Bool → List Stmt → Survey
+survey_of built_in script =
+    stmts script top (enter 1 kind.Module (own_name kind.Module) top (record { built_in = built_in; scopes = []; sites = [] }))
+
+abbrev pub surveyed : List Stmt → Survey
+surveyed script = survey_of false script

@@ -1,7 +1,7 @@
 //! Where the names of a script live, and its static rules (reference, sections 4.2, 6 to 8).
 #![tactic(auto)]
 
-ghost use Rattle.py_scopes.specs.Resolve.{Answers};
+ghost use Rattle.py_scopes.specs.Resolve.{Answers, AnswersAs, AnswersBuiltIn};
 
 mod end;
 mod homes;
@@ -15,18 +15,32 @@ mod surveyor;
 use crate::scopes::resolved;
 pub use end::ScopeEnd;
 pub use homes::{has_nearest_home, scopes_nest};
-pub use names::is_built_in;
 use py_ast::{Scoped, Script};
 use std::alloc::Global;
 
-/// The scopes of a script with the homes of their names, or the first kind of the table whose rule it breaks.
+/// The scopes of a script with the homes of their names, or the first kind of the table whose rule it breaks
+/// (reference, sections 4.2, 6 to 8).
 ///
 /// The kinds and their order are those of `ScopeEnd`. A kind comes where the script breaks its rule anywhere and no
 /// rule of an earlier kind, on the line of the first place that breaks it. `Memory` says nothing of the script.
 pub fn resolve(alloc: Global, script: Script) -> Result<Scoped, ScopeEnd>
     ensures { Answers script result }
 {
-    match resolved(alloc, &script) {
+    resolve_as(alloc, false, script)
+}
+
+/// The same of the built-in text: it may also name the natives that are for this text alone.
+pub fn resolve_built_in(alloc: Global, script: Script) -> Result<Scoped, ScopeEnd>
+    ensures { AnswersBuiltIn script result }
+{
+    resolve_as(alloc, true, script)
+}
+
+/// The scopes of a script, or of the built-in text, or what it breaks.
+fn resolve_as(alloc: Global, built_in: bool, script: Script) -> Result<Scoped, ScopeEnd>
+    ensures { AnswersAs built_in script result }
+{
+    match resolved(alloc, built_in, &script) {
         Ok(Ok(scopes)) => Ok(Scoped { script, scopes }),
         Ok(Err(end)) => Err(end),
         Err(_) => Err(ScopeEnd::Memory),

@@ -1,69 +1,11 @@
-//! Identifiers: mangling, names between double underscores, and the built-in names.
+//! Identifiers: mangling, names between double underscores, and the names that a module has without binding them.
 
-ghost use Rattle.std.specs.Prelude.{◌≡◌, map, option_map, IfOk};
+ghost use Rattle.std.specs.Prelude.{◌≡◌, option_map, IfOk};
+ghost use Rattle.nu_text.specs.Names as tables;
 ghost use Rattle.py_scopes.specs.Names as spec;
 
-use nu_text::RcStr;
+use nu_text::{RcStr, is_among, is_built_in_name, is_text_native};
 use std::alloc::{AllocError, Global};
-
-/// The names that stand behind those of the module: classes, exception classes and functions (Library Reference,
-/// "Built-in Functions", "Built-in Types" and "Built-in Exceptions").
-pub const BUILT_IN: [&str; 54] = [
-    "object",
-    "type",
-    "int",
-    "bool",
-    "str",
-    "list",
-    "tuple",
-    "dict",
-    "range",
-    "BaseException",
-    "Exception",
-    "GeneratorExit",
-    "ArithmeticError",
-    "ZeroDivisionError",
-    "AssertionError",
-    "AttributeError",
-    "EOFError",
-    "LookupError",
-    "IndexError",
-    "KeyError",
-    "NameError",
-    "UnboundLocalError",
-    "RuntimeError",
-    "NotImplementedError",
-    "StopIteration",
-    "TypeError",
-    "ValueError",
-    "len",
-    "isinstance",
-    "issubclass",
-    "callable",
-    "setattr",
-    "ord",
-    "chr",
-    "print",
-    "input",
-    "repr",
-    "iter",
-    "next",
-    "getattr",
-    "hasattr",
-    "abs",
-    "divmod",
-    "sum",
-    "any",
-    "all",
-    "min",
-    "max",
-    "sorted",
-    "enumerate",
-    "zip",
-    "map",
-    "filter",
-    "reversed",
-];
 
 /// The identifiers between double underscores that a script may have (reference, section 3.3).
 pub const SPECIAL: [&str; 16] = [
@@ -131,36 +73,16 @@ pub fn is_unwritten(name: &str) -> bool
     bytes.starts_with(b"__") && bytes.ends_with(b"__") && bytes.len() >= 5 && !is_special(name)
 }
 
-/// Whether the table has the name.
-fn is_among(table: &[&str], name: &str) -> bool
-    ensures { result ≡ spec.is_among (map (λ entry. entry.now) table.now) name.now }
-{
-    for entry in table {
-        if *entry == name {
-            return true;
-        }
-    }
-    false
-}
-
 #[tactic(auto, unfolding(crate::specs::Names::special))]
 fn is_special(name: &str) -> bool
-    ensures { result ≡ spec.is_among spec.special name.now }
+    ensures { result ≡ tables.is_among spec.special name.now }
 {
     is_among(&SPECIAL, name)
 }
 
-/// Whether it is a built-in name (Library Reference, "Built-in Functions", "Built-in Types" and "Built-in Exceptions").
-#[tactic(auto, unfolding(crate::specs::Names::built_in))]
-pub fn is_built_in(name: &str) -> bool
-    ensures { result ≡ spec.is_among spec.built_in name.now }
-{
-    is_among(&BUILT_IN, name)
-}
-
 /// Whether the module has this name without binding it.
-pub fn is_given(name: &str) -> bool
-    ensures { result ≡ spec.is_given name.now }
+pub fn is_given(built_in: bool, name: &str) -> bool
+    ensures { result ≡ spec.is_given built_in name.now }
 {
-    name == "__name__" || is_built_in(name)
+    name == "__name__" || is_built_in_name(name) || (built_in && is_text_native(name))
 }

@@ -13,7 +13,7 @@ use crate::homes::home;
 use crate::rules::{Alone, first_alone, first_clash, first_repeat, first_unnamed};
 use crate::seen::{Seen, enlist};
 use crate::survey::{Site, Survey, What};
-use crate::surveyor::surveyed;
+use crate::surveyor::survey_of;
 use py_ast::{NameHome, Scope, Script};
 use sqlite_items::Items;
 use std::alloc::{AllocError, Global};
@@ -140,14 +140,15 @@ fn filled<'a>(
     Ok(Items::from_vec(scopes))
 }
 
-/// The scopes of the script with the homes of their names, or what it breaks.
+/// The scopes of the script, or of the built-in text, with the homes of their names, or what it breaks.
 pub fn resolved(
     alloc: Global,
+    built_in: bool,
     script: &Script,
 ) -> Result<Result<Items<Scope>, ScopeEnd>, AllocError>
-    ensures { IfOk result (spec.Resolves (surveys.surveyed script.now.statements)) }
+    ensures { IfOk result (spec.Resolves (surveys.survey_of built_in script.now.statements)) }
 {
-    let survey = surveyed(alloc, script)?;
+    let survey = survey_of(alloc, built_in, script)?;
     let seen = Seen::of(alloc, survey.sites.as_slice())?;
     if let Some(end) = refusal(alloc, &survey, &seen)? {
         return Ok(Err(end));

@@ -98,6 +98,8 @@ pub struct Site {
 /// The scopes of a script without their names, and what stands in the script, both in the order of the text.
 #[derive(Drop)]
 pub struct Survey {
+    /// Whether it is of the built-in text.
+    pub built_in: bool,
     pub scopes: Items<Scope>,
     pub sites: Items<Site>,
 }

@@ -662,14 +662,15 @@ fn finishing(place: Place) -> Place
     }
 }
 
-/// The scopes of a script in the order of the text, and what stands in them.
-#[tactic(auto, unfolding(crate::specs::Survey::surveyed))]
-pub fn surveyed(alloc: Global, script: &Script) -> Result<Survey, AllocError>
-    ensures { IfOk result (λ survey. survey ≡ spec.surveyed script.now.statements) }
+/// The scopes of a script, or of the built-in text, in the order of the text, and what stands in them.
+#[tactic(auto, unfolding(crate::specs::Survey::survey_of))]
+pub fn survey_of(alloc: Global, built_in: bool, script: &Script) -> Result<Survey, AllocError>
+    ensures { IfOk result (λ survey. survey ≡ spec.survey_of built_in script.now.statements) }
 {
     let mut surveyor = Surveyor {
         alloc,
         survey: Survey {
+            built_in,
             scopes: Items::new(alloc),
             sites: Items::new(alloc),
         },

@@ -34,7 +34,7 @@ use Rattle.op_rules.specs.Start.{first_objects, start_world}
 use Rattle.op_rules.specs.Table.{row}
 use Rattle.op_rules.specs.TableRules.{table_rules}
 use Rattle.py_safe.specs.Rosters.{Roster}
-use Rattle.py_safe.specs.Heaps.{Mark, Open, View, view, ACell, nature_of, Grows, IsOpen, AllOpen, NamesOpen, PairsOpen, BaseOpen, ObjectOpen, BodyLaw, HeapLaw, KeepsGenerators, IsThere}
+use Rattle.py_safe.specs.Heaps.{Mark, Open, View, view, ACell, nature_of, Grows, IsOpen, AllOpen, NamesOpen, PairsOpen, IfAnyOpen, ObjectOpen, BodyLaw, HeapLaw, KeepsGenerators, IsThere}
 use Rattle.py_safe.specs.Rules.{GivesTruth, TruthBehind, EndIsTruth, gives_nature, EndIsOf, EndIsThis, AfterLaw, EndLaw, IsAtOnce, Leaves, Handed, WorldLaw, KeepsLaw}
 use Rattle.py_safe.proofs.Growth.{get_end, grows_refl, all_there, is_in_true}
 use Rattle.py_safe.proofs.Worlds.{grows_end, grows_set, plain_open, open_keywords, law_set, world_end, keeps_refl, keeps_end, keeps_set}
@@ -469,9 +469,9 @@ pairs_unmarked : (ps : PairList) → PairsOpen unmarked ps
 pairs_unmarked [] = tt
 pairs_unmarked (p ∷ ps) = (value_unmarked p.1, value_unmarked p.2, pairs_unmarked ps)
 
-base_unmarked : (b : Option ℕ) → BaseOpen unmarked b
-base_unmarked None = tt
-base_unmarked (Some b) = refl
+any_unmarked : (b : Option ℕ) → IfAnyOpen unmarked b
+any_unmarked None = tt
+any_unmarked (Some b) = refl
 
 object_unmarked : (o : Object) → ObjectOpen unmarked o
 object_unmarked (object.Tuple items) = all_unmarked items
@@ -480,14 +480,14 @@ object_unmarked (object.Dict pairs) = pairs_unmarked pairs
 object_unmarked (object.Range start stop step) = tt
 object_unmarked (object.Function code defaults keywords cells) = (all_unmarked defaults, names_unmarked keywords, all_unmarked cells)
 object_unmarked (object.Method receiver function) = (value_unmarked receiver, refl)
-object_unmarked (object.Class name base own native) = (base_unmarked base, names_unmarked own)
+object_unmarked (object.Class name base own native) = (any_unmarked base, names_unmarked own)
 object_unmarked (object.Instance class fields) = (refl, names_unmarked fields)
 object_unmarked (object.Generator code state given cells) = (all_unmarked given, all_unmarked cells)
 object_unmarked (object.Iterator over place size over_now) = value_unmarked over
 object_unmarked (object.View dict kind) = refl
 object_unmarked (object.Cell v) = value_unmarked v
 object_unmarked (object.Space names) = names_unmarked names
-object_unmarked (object.Exception class args entries fields cause) = (refl, all_unmarked args, names_unmarked fields)
+object_unmarked (object.Exception class args entries fields cause) = (refl, all_unmarked args, names_unmarked fields, any_unmarked cause)
 object_unmarked (object.Builtin name receiver) = value_unmarked receiver
 object_unmarked (object.Trace exception) = refl
 

@@ -1,5 +1,5 @@
 -- Assignments, from what their parts become.
-use Rattle.std.proofs.Common.{◌≡◌, ℕ, ◌≤◌, List, [], ◌∷◌, ◌++◌, Option, Ok, refl, sym, ap, ◌∙◌, subst, arith}
+use Rattle.std.proofs.Common.{◌≡◌, ℕ, ◌≤◌, List, [], ◌∷◌, ◌++◌, Option, Ok, refl, sym, ap, ◌∙◌, subst, arith, append_assoc, append-nil}
 use Rattle.nu_value.specs.declared.value.Value.TheVariants as value
 use Rattle.py_ast.specs.declared.expr.Binary.{Binary}
 use Rattle.py_ast.specs.declared.expr.Expr.{Expr}
@@ -24,7 +24,6 @@ use Rattle.reform_all.proofs.Quiets.{quiet_append, quiet_nil}
 use Rattle.reform_all.specs.Expressions.{IsExpressed}
 use Rattle.reform_all.specs.Assignments.{IsPlaced, AreStored, Assigned, Augmented, no_name}
 use Rattle.reform_all.proofs.Making.{two_is}
-use Rattle.reform_all.proofs.Blocks.{append_nil, append_assoc}
 
 -- no target
 pub none_stored : (o : Operand) (old : ℕ) → AreStored [] o old old []
@@ -67,7 +66,7 @@ stores_next ts t rest o place old now mid nodes a s p le first q = record {
 }
 
 pub stores_end : (ts : List Expr) (o : Operand) (old now : ℕ) (nodes : List Node) → Stores ts [] o old now nodes → AreStored ts o old now nodes
-stores_end ts o old now nodes s = subst (λ l. AreStored ts o old now l) (append_nil nodes) (s.goes_on now [] (none_stored o now))
+stores_end ts o old now nodes s = subst (λ l. AreStored ts o old now l) (append-nil nodes) (s.goes_on now [] (none_stored o now))
 
 -- the right side, and its value to the targets
 pub assigns : (names : List (List ℕ)) (ts : List Expr) (x : Expr) (old mid new : ℕ) (p : Part) (b : List Node) → IsExpressed names x old mid p → AreStored ts p.value mid new b → Assigned names ts x old new (Ok (p.block ++ b))

@@ -1,18 +1,19 @@
 -- Statements, from what their parts become.
-use Rattle.std.proofs.Common.{◌≡◌, ◌≢◌, ◌↔◌, Bool, false, IsTrue, ℕ, suc, ◌≤◌, List, [], ◌∷◌, ◌++◌, map, length, Option, Some, None, refl, sym, ap, ◌∙◌, subst, arith}
+use Rattle.std.proofs.Common.{◌≡◌, ◌≢◌, ◌↔◌, Bool, false, IsTrue, ℕ, suc, ◌≤◌, List, [], ◌∷◌, ◌++◌, map, length, Option, Some, None, refl, sym, ap, ◌∙◌, subst, arith, append_assoc, append-nil}
 use Rattle.std.proofs.lemmas.Bool.{false≢true}
 use Rattle.py_ast.specs.declared.expr.Expr.{Expr}
 use Rattle.py_ast.specs.declared.stmt.Branch.{Branch}
 use Rattle.py_ast.specs.declared.stmt.Stmt.{Stmt}
 use Rattle.node_tree.specs.declared.node.Node.{Node, Leave}
 use Rattle.node_tree.specs.Tree.{block}
+use Rattle.node_tree.proofs.Direct.{append_stop}
 use Rattle.py_scopes.specs.Parts.{branch_of}
 use Rattle.py_meaning.specs.Syntax as syntax
 use Rattle.py_meaning.specs.Resolved as meaning
 use Rattle.nu_carries.specs.Frames.{Homes, behind}
 use Rattle.nu_carries.specs.Carries.{CarriesExpression, CarriesStatement, CarriesBlock}
 use Rattle.nu_carries.specs.Laws.{Within}
-use Rattle.nu_carries.proofs.Statements.{evaluate_carried, leave_carried}
+use Rattle.nu_carries.proofs.Statements.{done_carried, pass_carried, evaluate_carried, leave_carried}
 use Rattle.reform_base.specs.declared.Part.{Part}
 use Rattle.reform_all.specs.declared.choices.Choice.{Choice}
 use Rattle.reform_all.specs.Built as built
@@ -25,7 +26,7 @@ use Rattle.reform_all.specs.Quiet.{Quiet, AllQuiet}
 use Rattle.reform_all.proofs.Quiets.{quiet_append, quiet_nil}
 use Rattle.reform_all.specs.Statements.{BlockBecomes, BranchesBecome}
 use Rattle.reform_all.proofs.Making.{made_is, two_is, three_is}
-use Rattle.reform_all.proofs.Blocks.{append_stop, append_nil, append_assoc, more_value, more_row, done_carried, pass_carried, nodes_carried}
+use Rattle.reform_all.proofs.Blocks.{more_value, more_row, nodes_carried}
 
 -- an expression as a statement
 pub evaluates : (names : List (List ℕ)) (x : Expr) (old new : ℕ) (p : Part) → IsExpressed names x old new p → Becomes ((built.expr x).unbuilt names) (λ c. meaning.made syntax.Evaluate ((meaning.expr x).value c)) old new p.block
@@ -125,7 +126,7 @@ goes_next names ss s rest old now mid nodes a g x = record {
 }
 
 pub goes_end : (names : List (List ℕ)) (ss : List Stmt) (old now : ℕ) (nodes : List Node) → Goes names ss [] old now nodes → AllBecome names ss old now nodes
-goes_end names ss old now nodes g = subst (λ l. AllBecome names ss old now l) (append_nil nodes) (g.goes_on now [] (none_become names now))
+goes_end names ss old now nodes g = subst (λ l. AllBecome names ss old now l) (append-nil nodes) (g.goes_on now [] (none_become names now))
 
 -- Branches
 

@@ -1,31 +1,17 @@
 -- Blocks that carry statements carry them within more temporaries too, and as a block of one statement.
 use Rattle.std.proofs.Common.{◌≡◌, ℕ, ◌≤◌, List, [], ◌∷◌, ◌++◌, Option, refl, sym, ap, subst, arith}
-use Rattle.nu_value.specs.declared.value.Value.TheVariants as value
 use Rattle.node_tree.specs.declared.node.Node.{Node}
 use Rattle.node_tree.specs.declared.node.Operand.{Operand}
 use Rattle.node_tree.specs.declared.node.Operand.TheVariants as operand
 use Rattle.node_tree.specs.Blocks as tree
 use Rattle.node_tree.specs.Tree.{block}
-use Rattle.node_tree.proofs.Direct.{block_append}
+use Rattle.node_tree.proofs.Direct.{block_append, append_stop}
 use Rattle.py_meaning.specs.Syntax as syntax
 use Rattle.py_meaning.specs.Frames as python
 use Rattle.nu_carries.specs.Frames.{Homes, behind, IsWithin}
 use Rattle.nu_carries.specs.Carries.{CarriesRow, CarriesExpression, CarriesStatement, CarriesBlock}
 use Rattle.nu_carries.proofs.Facts.{outside_less}
-use Rattle.nu_carries.proofs.Sequence.{gives_carried}
-use Rattle.nu_carries.proofs.Statements.{block_carried}
-
-pub append_stop : (b : tree.Block) → tree.append b tree.Stop ≡ b
-append_stop tree.Stop = refl
-append_stop (tree.Follow x r) = ap (λ b. tree.Follow x b) (append_stop r)
-
-pub append_nil : (xs : List Node) → xs ++ [] ≡ xs
-append_nil [] = refl
-append_nil (x ∷ xs) = ap (λ l. x ∷ l) (append_nil xs)
-
-pub append_assoc : (xs ys zs : List Node) → (xs ++ ys) ++ zs ≡ xs ++ (ys ++ zs)
-append_assoc [] ys zs = refl
-append_assoc (x ∷ xs) ys zs = ap (λ l. x ∷ l) (append_assoc xs ys zs)
+use Rattle.nu_carries.proofs.Statements.{done_carried, block_carried}
 
 within_more : (low mid high : ℕ) (o : Operand) → mid ≤ high → IsWithin low mid o → IsWithin low high o
 within_more low mid high (operand.Temp t) le w = let a = w.1 in (w.0, omega arith)
@@ -50,22 +36,6 @@ more_row h low mid high caught r b le c =
       grows = omega arith;
       carries = λ z fs handled off hd. c.carries z fs handled (outside_less h low high low mid fs (omega arith) le off) hd;
     }
-
--- no statement
-pub done_carried : (h : Homes) (low high : ℕ) (caught : Option ℕ) → behind h ≤ low → low ≤ high → CarriesBlock h low high caught syntax.Done tree.Stop
-done_carried h low high caught st le = record {
-  starts = st;
-  grows = le;
-  carries = λ z fs handled off hd. gives_carried z h 2 (λ v. fs) fs value.None (λ c g x. x);
-}
-
--- `pass`
-pub pass_carried : (h : Homes) (low high : ℕ) (caught : Option ℕ) → behind h ≤ low → low ≤ high → CarriesStatement h low high caught syntax.Pass tree.Stop
-pass_carried h low high caught st le = record {
-  starts = st;
-  grows = le;
-  carries = λ z fs handled off hd. gives_carried z h 2 (λ v. fs) fs value.None (λ c g x. x);
-}
 
 -- one statement
 pub alone_carried : (h : Homes) (low high : ℕ) (caught : Option ℕ) (s : syntax.Statement) (b : tree.Block) → CarriesStatement h low high caught s b → CarriesBlock h low high caught (syntax.Then s syntax.Done) b

@@ -258,17 +258,17 @@ binary_taken binary.FloorDivide a b = refl
 binary_taken binary.Remainder a b = refl
 binary_taken binary.Power a b = refl
 
-compared_taken : (sign : Comparison) (a b : Part) → built.is_in sign ≡ false → is_taken (meaning.comparison_op sign) (arguments (meaning.comparison_op sign) (a ∷ b ∷ [])) ≡ true
-compared_taken comparison.Less a b e = refl
-compared_taken comparison.Greater a b e = refl
-compared_taken comparison.LessEqual a b e = refl
-compared_taken comparison.GreaterEqual a b e = refl
-compared_taken comparison.Equal a b e = refl
-compared_taken comparison.NotEqual a b e = refl
-compared_taken comparison.In a b e = sym e
-compared_taken comparison.NotIn a b e = sym e
-compared_taken comparison.Is a b e = refl
-compared_taken comparison.IsNot a b e = refl
+compared_taken : (sign : Comparison) (a b : Part) → is_taken (meaning.comparison_op sign) (arguments (meaning.comparison_op sign) (a ∷ b ∷ [])) ≡ true
+compared_taken comparison.Less a b = refl
+compared_taken comparison.Greater a b = refl
+compared_taken comparison.LessEqual a b = refl
+compared_taken comparison.GreaterEqual a b = refl
+compared_taken comparison.Equal a b = refl
+compared_taken comparison.NotEqual a b = refl
+compared_taken comparison.In a b = refl
+compared_taken comparison.NotIn a b = refl
+compared_taken comparison.Is a b = refl
+compared_taken comparison.IsNot a b = refl
 
 sum_one : (t a f : ℕ) → t ≡ (a + 0) + f → a ≡ 0 → f ≡ 0 → t ≡ 0
 sum_one t a f e e₁ e₂ = omega arith
@@ -405,7 +405,7 @@ compared_expressed bound whole line x x' links link old mid high new a b p w sam
           (subst (λ n. Is (made (syntax.LastLink o n) ((meaning.expr link.right).value c)) (syntax.LastLink o false (j.means c m))) (sym (plain_comparison link.comparison plain))
           (is_made (syntax.LastLink o false) ((meaning.expr link.right).value c) (j.means c m) (j.is c m))));
       carries = λ c m h low st l. compared_carried h low new line o (i.means c m) (j.means c m) (block p.block) p.value (two_carried line o _ bound x link.right old mid high new a b p i j d c m h low st l);
-      taken = none_two refuses d i.taken j.taken (taken_form high line o (arguments o (a ∷ b ∷ [])) (compared_taken link.comparison a b plain));
+      taken = none_two refuses d i.taken j.taken (taken_form high line o (arguments o (a ∷ b ∷ [])) (compared_taken link.comparison a b));
       yields = none_two form_yields d i.yields j.yields refl;
     })
 

@@ -11,7 +11,7 @@ use Rattle.py_ast.specs.declared.stmt.Stmt.{Stmt, fold-roll-Stmt}
 use Rattle.py_ast.specs.declared.stmt.Stmt.TheOpen.{Stmt-F}
 use Rattle.py_ast.specs.declared.stmt.Stmt.TheVariants as st
 use Rattle.py_ast.specs.declared.stmt.Stmt.TheVariants.{rolls-If, rolls-While}
-use Rattle.py_scopes.specs.Names.{is_among}
+use Rattle.nu_text.specs.Names.{is_among}
 use Rattle.py_scopes.specs.Parts.{branch_of}
 use Rattle.reform_all.specs.declared.bound.Bound.{Bound}
 use Rattle.reform_all.specs.Built.{Expression, Statement, expr_row, stmt, stmt_row, name_of, bound_by, all_binds, branches_bind}

@@ -13,7 +13,7 @@ use Rattle.py_scopes.specs.declared.survey.Survey.{Survey}
 use Rattle.py_scopes.specs.Homes.{occurs, global, home, first_home, decided, binds, seen, seen_within}
 use Rattle.py_scopes.specs.Resolve.{scopes_of, names_from, new_name, filled}
 use Rattle.py_scopes.specs.Rules.{variable}
-use Rattle.py_scopes.specs.Survey.{surveyed, enter, own_name, top}
+use Rattle.py_scopes.specs.Survey.{surveyed, survey_of, enter, own_name, top}
 use Rattle.py_meaning.specs.Scopes.{home_among, home_by, is_free, distinct, is_inside, names_where}
 use Rattle.reform_all.specs.Built.{first_unbuilt, bound_in}
 use Rattle.reform_all.specs.Module.{IsModule}
@@ -79,10 +79,10 @@ abbrev module_scope : Bool → List NameHome → Scope
 module_scope generator names = record { kind = kind.Module; name = codes "<module>"; line = 1; enclosing = 0; is_generator = generator; names = names }
 
 begins : Survey
-begins = enter 1 kind.Module (own_name kind.Module) top (record { scopes = []; sites = [] })
+begins = enter 1 kind.Module (own_name kind.Module) top (record { built_in = false; scopes = []; sites = [] })
 
 survey_is : (ss : List Stmt) → first_unbuilt ss ≡ None → Quiet begins (surveyed ss)
-unfolding surveyed begins
+unfolding survey_of begins
 survey_is ss h = stmts_settled ss (bound_in ss) h top begins
 
 scopes_are : (ss : List Stmt) → first_unbuilt ss ≡ None → scopes_of (surveyed ss) ≡ module_scope false (names_from (surveyed ss) 0 [] (surveyed ss).sites) ∷ []

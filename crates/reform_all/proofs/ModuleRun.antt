@@ -4,6 +4,7 @@ use Rattle.std.specs.Prelude.{slice_get}
 use Rattle.nu_run.specs.Runs.{Same}
 use Rattle.nu_value.specs.declared.header.Header.{Header}
 use Rattle.nu_value.specs.declared.value.Value.{Value}
+use Rattle.nu_calls.specs.Calls.{of_kind}
 use Rattle.op_forms.specs.Rules.{Rules}
 use Rattle.py_ast.specs.declared.scoped.Scope.{Scope}
 use Rattle.py_ast.specs.declared.scoped.Scoped.{Scoped}
@@ -83,10 +84,10 @@ module _ (rules : Rules) (name : List ℕ) (b : syntax.Block) (body : List Node)
   abbrev setting : Setting
   setting = record { rules = rules; codes = python_code b ∷ []; script = module_script name body; homes = homes }
 
-  begins : (code : ℕ) (given cells : List Value)
-      → BegunAs (homes code) (bodies.begun_frame code given cells (slice_get (python_code b ∷ []) code)) (node_run.begun_frame code given cells (slice_get (module_code body ∷ []) code))
-  begins zero given cells = begun_alike (nat_le 0 (length given) && nat_le 0 (length cells)) given cells _ _ refl refl refl
-  begins (suc n) given cells = tt
+  begins : (kind : Bool) (code : ℕ) (given cells : List Value)
+      → BegunAs (homes code) (bodies.begun_frame kind code given cells (slice_get (python_code b ∷ []) code)) (node_run.begun_frame kind code given cells (slice_get (module_code body ∷ []) code))
+  begins kind zero given cells = begun_alike (of_kind kind false && (nat_le 0 (length given) && nat_le 0 (length cells))) given cells _ _ refl refl refl
+  begins kind (suc n) given cells = tt
 
   carried : (high : ℕ) → CarriesBlock no_homes 0 high None b (tree.block body) → (code : ℕ) → CarriesCode setting code
   carried high x zero = plain_carried setting 0 0 high (python_code b) b refl refl refl refl x

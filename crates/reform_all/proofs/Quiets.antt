@@ -10,10 +10,9 @@ use Rattle.node_tree.specs.declared.node.Operand.{Operand}
 use Rattle.node_tree.specs.Blocks as tree
 use Rattle.node_tree.specs.Contents.{total, form_operations, operations, form_yields, yields}
 use Rattle.node_tree.specs.Tree.{block}
-use Rattle.node_tree.proofs.Direct.{block_append}
+use Rattle.node_tree.proofs.Direct.{block_append, total_append}
 use Rattle.py_meaning.specs.Resolved.{augmented_op}
 use Rattle.reform_expr.specs.declared.home.Home.TheVariants as home
-use Rattle.reform_expr.proofs.Blocks.{total_append}
 use Rattle.reform_loops.specs.Kept.{asks}
 use Rattle.reform_unpack.specs.declared.place.Place.{Place}
 use Rattle.reform_unpack.specs.declared.place.Place.TheVariants as place

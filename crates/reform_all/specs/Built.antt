@@ -13,7 +13,7 @@ use Rattle.py_ast.specs.declared.expr.Expr.TheOpen.{Expr-F}
 use Rattle.py_ast.specs.declared.stmt.Branch.{Branch}
 use Rattle.py_ast.specs.declared.stmt.Stmt.{Stmt, fold-Stmt}
 use Rattle.py_ast.specs.declared.stmt.Stmt.TheOpen.{Stmt-F}
-use Rattle.py_scopes.specs.Names.{is_among, built_in}
+use Rattle.nu_text.specs.Names.{is_among, built_in_names}
 
 -- the first of some lines, where there is one
 abbrev pub before : Option ℕ → Option ℕ → Option ℕ
@@ -31,7 +31,7 @@ is_print x = bytes_eq x (codes "print")
 
 -- a built-in name other than `print`, where the script binds these names
 abbrev pub is_other : List (List ℕ) → List ℕ → Bool
-is_other bound x = is_among built_in x && not (is_print x) && not (is_among bound x)
+is_other bound x = is_among built_in_names x && not (is_print x) && not (is_among bound x)
 
 -- Expressions
 

@@ -2,7 +2,7 @@
 use Rattle.std.specs.Prelude.{◌≡◌, ◌||◌, ℕ, Bool, List}
 use Rattle.std.specs.List.{list_any}
 use Rattle.std.specs.Str.{bytes_eq}
-use Rattle.py_scopes.specs.Names.{is_among}
+use Rattle.nu_text.specs.Names.{is_among}
 use Rattle.reform_all.specs.declared.bound.Bound.{Bound}
 
 -- the set has the name

@@ -5,8 +5,8 @@ ghost use Rattle.py_scopes.specs.Parts as parts;
 ghost use Rattle.reform_all.specs.Built as built;
 ghost use Rattle.reform_all.specs.Names.{Holds, Gains};
 
+use nu_text::is_built_in_name;
 use py_ast::{Branch, Expr, Stmt};
-use py_scopes::is_built_in;
 use std::alloc::{AllocError, Global};
 use std::collections::HashSet;
 
@@ -93,6 +93,6 @@ impl<'a> Bound<'a> {
     pub fn is_other(&self, name: &str) -> bool
         ensures { (names : List (List ℕ)) → Holds self.now names → result ≡ built.is_other names name.now }
     {
-        is_built_in(name) && name != "print" && !self.names.contains(name)
+        is_built_in_name(name) && name != "print" && !self.names.contains(name)
     }
 }

@@ -2,8 +2,9 @@
 #![tactic(auto)]
 
 ghost use Rattle.std.specs.Prelude.{◌≡◌, [], ◌∷◌, ◌++◌, IfOk};
+ghost use Rattle.node_tree.specs.declared.node.Argument.TheVariants as argument;
 
-use node_tree::{Block, Node, Operand};
+use node_tree::{Argument, Block, Node, Operand};
 use sqlite_items::Items;
 use std::alloc::{AllocError, Global};
 
@@ -12,6 +13,16 @@ use std::alloc::{AllocError, Global};
 pub struct Part {
     pub block: Block,
     pub value: Operand,
+}
+
+/// A value as the one argument of an operation. Nodes and arguments in lists are dropped by one call; where an operand by itself is held
+/// over a `?`, its whole drop is written out there.
+pub fn argument(alloc: Global, value: Operand) -> Result<Items<Argument>, AllocError>
+    ensures { IfOk result (λ args. args ≡ argument.Value value ∷ []) }
+{
+    let mut args = Items::new(alloc);
+    args.push(Argument::Value(value))?;
+    Ok(args)
 }
 
 /// A block of one node.

@@ -1,5 +1,5 @@
 -- Blocks of parts, one after another, and sums over them.
-use Rattle.std.proofs.Common.{◌≡◌, ℕ, suc, ◌+◌, length, map, List, [], ◌∷◌, ◌++◌, refl, sym, ap, ◌∙◌, arith, Some}
+use Rattle.std.proofs.Common.{◌≡◌, ℕ, suc, ◌+◌, length, map, List, [], ◌∷◌, ◌++◌, refl, sym, ap, ◌∙◌, arith, Some, append_assoc, append-nil}
 use Rattle.std.specs.Prelude.{slice_get}
 use Rattle.op_forms.specs.declared.signature.ArgumentKind.{ArgumentKind}
 use Rattle.node_tree.specs.declared.node.Node.{Node}
@@ -7,21 +7,14 @@ use Rattle.node_tree.specs.declared.node.Argument.TheVariants as argument
 use Rattle.node_tree.specs.Blocks as tree
 use Rattle.node_tree.specs.Contents.{form_total, total}
 use Rattle.node_tree.specs.Tree.{form, block}
+use Rattle.node_tree.proofs.Direct.{block_append, total_append}
 use Rattle.nu_carries.specs.Carries.{joined}
 use Rattle.reform_base.specs.declared.Part.{Part}
 use Rattle.reform_expr.specs.Parts.{carrier, blocks, totals}
 use Rattle.reform_expr.specs.Arguments.{is_name, argument_of, given}
 
-pub append_assoc : (xs ys zs : List Node) → (xs ++ ys) ++ zs ≡ xs ++ (ys ++ zs)
-append_assoc [] ys zs = refl
-append_assoc (x ∷ xs) ys zs = ap (λ l. x ∷ l) (append_assoc xs ys zs)
-
-append_nil : (xs : List Node) → xs ++ [] ≡ xs
-append_nil [] = refl
-append_nil (x ∷ xs) = ap (λ l. x ∷ l) (append_nil xs)
-
 pub blocks_push : (ps : List Part) (p : Part) → blocks (ps ++ p ∷ []) ≡ blocks ps ++ p.block
-blocks_push [] p = append_nil p.block
+blocks_push [] p = append-nil p.block
 blocks_push (q ∷ ps) p = ap (λ l. q.block ++ l) (blocks_push ps p) ∙ sym (append_assoc q.block (blocks ps) p.block)
 
 pub behind_push : (first : List Node) (ps : List Part) (p : Part) → first ++ blocks (ps ++ p ∷ []) ≡ (first ++ blocks ps) ++ p.block
@@ -42,10 +35,6 @@ given_push (k ∷ kinds) [] p = refl
 given_push [] (q ∷ ps) p = ap (λ l. argument.Value q.value ∷ l) (given_push [] ps p)
 given_push (k ∷ kinds) (q ∷ ps) p = ap (λ l. argument_of (is_name (Some k)) q.value ∷ l) (given_push kinds ps p)
 
-pub block_append : (xs ys : List Node) → block (xs ++ ys) ≡ tree.append (block xs) (block ys)
-block_append [] ys = refl
-block_append (x ∷ xs) ys = ap (λ b. tree.Follow (form x) b) (block_append xs ys)
-
 -- as a block of the meaning
 pub blocks_joined : (ps : List Part) (rest : List Node) → block (blocks ps ++ rest) ≡ joined (map carrier ps) (block rest)
 blocks_joined [] rest = refl
@@ -53,17 +42,10 @@ blocks_joined (p ∷ ps) rest =
     ap (λ l. block l) (append_assoc p.block (blocks ps) rest) ∙ block_append p.block (blocks ps ++ rest) ∙ ap (λ b. tree.append (block p.block) b) (blocks_joined ps rest)
 
 module _ (count : tree.Form → ℕ) where
-  pub total_append : (b c : tree.Block) → total count (tree.append b c) ≡ total count b + total count c
-  total_append tree.Stop c = omega arith
-  total_append (tree.Follow x r) c =
-      let e : total count (tree.append r c) ≡ total count r + total count c = total_append r c in
-      let goal : form_total count x + total count (tree.append r c) ≡ (form_total count x + total count r) + total count c = omega arith in
-      goal
-
   pub total_joined : (ps : List Part) (last : tree.Block) → total count (joined (map carrier ps) last) ≡ totals count ps + total count last
   total_joined [] last = omega arith
   total_joined (p ∷ ps) last =
-      let a : total count (tree.append (block p.block) (joined (map carrier ps) last)) ≡ total count (block p.block) + total count (joined (map carrier ps) last) = total_append (block p.block) (joined (map carrier ps) last) in
+      let a : total count (tree.append (block p.block) (joined (map carrier ps) last)) ≡ total count (block p.block) + total count (joined (map carrier ps) last) = total_append count (block p.block) (joined (map carrier ps) last) in
       let e : total count (joined (map carrier ps) last) ≡ totals count ps + total count last = total_joined ps last in
       let goal : total count (tree.append (block p.block) (joined (map carrier ps) last)) ≡ (total count (block p.block) + totals count ps) + total count last = omega arith in
       goal

@@ -3,12 +3,12 @@ use Rattle.std.proofs.Common.{ℕ, ◌+◌, ◌≤◌, List, [], ◌∷◌, refl
 use Rattle.op_forms.specs.declared.op.Op.TheVariants as op
 use Rattle.node_tree.specs.declared.node.Argument.TheVariants as argument
 use Rattle.node_tree.specs.declared.node.Operand.TheVariants as operand
+use Rattle.node_tree.specs.Blocks.{alone}
 use Rattle.node_tree.specs.Blocks as tree
 use Rattle.py_meaning.specs.Syntax as syntax
 use Rattle.py_meaning.specs.Frames as python
 use Rattle.nu_carries.specs.Frames.{Homes, behind, Holds}
 use Rattle.nu_carries.specs.Carries.{CarriesExpression}
-use Rattle.nu_carries.specs.Laws.{alone}
 use Rattle.reform_expr.specs.declared.home.Home.{Home}
 use Rattle.reform_expr.specs.declared.home.Home.TheVariants as home
 use Rattle.reform_expr.specs.Homes.{home_of, reads}

@@ -10,6 +10,7 @@ use Rattle.node_tree.specs.declared.node.Argument.TheVariants as argument
 use Rattle.node_tree.specs.declared.node.Operand.{Operand}
 use Rattle.node_tree.specs.declared.node.Operand.TheVariants as operand
 use Rattle.node_tree.specs.declared.node.Node.{Do, Call}
+use Rattle.node_tree.specs.Blocks.{alone}
 use Rattle.node_tree.specs.Blocks as tree
 use Rattle.node_tree.specs.Nodes as nodes
 use Rattle.node_tree.specs.Tree.{block}
@@ -19,7 +20,6 @@ use Rattle.py_meaning.specs.Expressions.{each}
 use Rattle.nu_calls.specs.Calls.{operate}
 use Rattle.nu_carries.specs.Frames.{Homes, behind, Holds, Facts, Fits, IsWithin, IsOff, Outside}
 use Rattle.nu_carries.specs.Carries.{Setting, source, target, Carried, CarriesExpression, CarriesAll, joined}
-use Rattle.nu_carries.specs.Laws.{alone}
 use Rattle.nu_carries.proofs.Facts.{Off, outside_off, outside_less, forget}
 use Rattle.nu_carries.proofs.Sequence.{weaken, more_leaves, seq_carried, one_carried}
 use Rattle.nu_carries.proofs.Operations.{operate_carried}

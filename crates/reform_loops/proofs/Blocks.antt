@@ -7,19 +7,20 @@ use Rattle.node_tree.specs.declared.node.Argument.TheVariants as argument
 use Rattle.node_tree.specs.declared.node.Operand.{Operand}
 use Rattle.node_tree.specs.declared.node.Operand.TheVariants as operand
 use Rattle.node_tree.specs.declared.node.Node.{Node, Constant, Do, If, Loop, Leave}
+use Rattle.node_tree.specs.Blocks.{alone}
 use Rattle.node_tree.specs.Blocks as tree
 use Rattle.node_tree.specs.Tree.{form, block}
 use Rattle.node_tree.proofs.Direct.{block_append}
 use Rattle.node_tree.proofs.Forms.{form_if, form_loop}
-use Rattle.nu_carries.specs.Laws.{alone, if_block, turn_block, while_block}
+use Rattle.nu_carries.specs.Laws.{if_block, turn_block, while_block}
 
 appended : (x : tree.Block) (f : tree.Form) (y : tree.Block) → tree.append (tree.append x (alone f)) y ≡ tree.append x (tree.Follow f y)
 appended tree.Stop f y = refl
 appended (tree.Follow g x) f y = ap (λ r. tree.Follow g r) (appended x f y)
 
 -- a test and a branch
-pub branched_is : (line t : ℕ) (tb ys ns asked b : List Node) (args : List Argument) (o : Operand) → args ≡ argument.Value o ∷ [] → asked ≡ tb ++ Do t line op.Truth args ∷ [] → b ≡ asked ++ If (operand.Temp t) ys ns ∷ [] → block b ≡ if_block line t (block tb) o (block ys) (block ns)
-branched_is line t tb ys ns asked b args o eg ea eb =
+pub branch_is : (line t : ℕ) (tb ys ns asked b : List Node) (args : List Argument) (o : Operand) → args ≡ argument.Value o ∷ [] → asked ≡ tb ++ Do t line op.Truth args ∷ [] → b ≡ asked ++ If (operand.Temp t) ys ns ∷ [] → block b ≡ if_block line t (block tb) o (block ys) (block ns)
+branch_is line t tb ys ns asked b args o eg ea eb =
     ap block eb
     ∙ block_append asked (If (operand.Temp t) ys ns ∷ [])
     ∙ ap (λ x. tree.append x (tree.Follow (form (If (operand.Temp t) ys ns)) tree.Stop)) (ap block ea ∙ block_append tb (Do t line op.Truth args ∷ []))

@@ -8,14 +8,12 @@ use Rattle.node_tree.specs.declared.node.Argument.{Argument}
 use Rattle.node_tree.specs.declared.node.Argument.TheVariants as argument
 use Rattle.node_tree.specs.declared.node.Operand.{Operand}
 use Rattle.node_tree.specs.declared.node.Operand.TheVariants as operand
+use Rattle.node_tree.specs.Blocks.{alone}
 use Rattle.node_tree.specs.Blocks as tree
-use Rattle.node_tree.specs.Contents.{form_total, total, form_operations, operations, form_constants, constants, operand_constants, form_yields, yields}
-use Rattle.nu_carries.specs.Laws.{alone, if_block, turn_block, while_block}
+use Rattle.node_tree.specs.Contents.{total, form_operations, operations, form_constants, constants, operand_constants, form_yields, yields}
+use Rattle.node_tree.proofs.Direct.{total_append}
+use Rattle.nu_carries.specs.Laws.{if_block, turn_block, while_block}
 use Rattle.reform_loops.specs.Kept.{asks, flags}
-
-total_append : (count : tree.Form → ℕ) (x y : tree.Block) → total count (tree.append x y) ≡ total count x + total count y
-total_append count tree.Stop y = omega arith
-total_append count (tree.Follow f x) y = let e : total count (tree.append x y) ≡ total count x + total count y = total_append count x y in omega (arith, e)
 
 if_total : (count : tree.Form → ℕ) (line t : ℕ) (tb : tree.Block) (o : Operand) (y n : tree.Block) → total count (if_block line t tb o y n) ≡ total count tb + (count (tree.Do t line op.Truth (argument.Value o ∷ [])) + (count (tree.If (operand.Temp t) y n) + (total count y + total count n)))
 if_total count line t tb o y n =

@@ -1,9 +1,11 @@
 //! Branches.
 
-ghost use Rattle.std.specs.Prelude.{◌≡◌, ℕ, ◌+◌, ◌≤◌, List, Bool, Option, OnOk, IfOk};
+ghost use Rattle.std.specs.Prelude.{◌≡◌, ℕ, ◌+◌, ◌≤◌, List, [], ◌∷◌, Bool, Option, OnOk, IfOk};
 ghost use Rattle.op_forms.specs.declared.constant.Const.{Const as Constant};
 ghost use Rattle.op_forms.specs.declared.op.Op.{Op as Operation};
 ghost use Rattle.node_tree.specs.declared.node.Argument.{Argument as Taken};
+ghost use Rattle.node_tree.specs.declared.node.Argument.TheVariants as argument;
+ghost use Rattle.node_tree.specs.declared.node.Operand.{Operand as Tested};
 ghost use Rattle.node_tree.specs.Contents.{operations, constants, operand_constants, yields};
 ghost use Rattle.node_tree.specs.Tree.{block};
 ghost use Rattle.py_meaning.specs.Syntax as syntax;
@@ -14,27 +16,21 @@ ghost use Rattle.reform_loops.specs.Kept.{asks};
 
 use node_tree::{Argument, Block, Node, Operand, Temps};
 use op_forms::Op;
-use reform_base::{Part, ended};
+use reform_base::{Part, argument, ended};
 use sqlite_items::Items;
 use std::alloc::{AllocError, Global};
 
-/// A test, its truth value in a temporary, and a branch on that.
-pub fn branched(
-    alloc: Global,
-    test: Part,
+/// A test, its truth value in a temporary, and a branch on that. The test comes as its block and what holds its value.
+pub fn branch_on(
+    first: Block,
+    args: Items<Argument>,
     line: u32,
     truth: u64,
     yes: Block,
     no: Block,
 ) -> Result<Block, AllocError>
-    ensures { IfOk result (λ b. block b ≡ if_block line truth (block test.block) test.value (block yes) (block no)) }
+    ensures { IfOk result (λ b. (o : Tested) → args ≡ argument.Value o ∷ [] → block b ≡ if_block line truth (block first) o (block yes) (block no)) }
 {
-    let Part {
-        block: first,
-        value,
-    } = test;
-    let mut args = Items::new(alloc);
-    args.push(Argument::Value(value))?;
     let asked = ended(
         first,
         Node::Do {
@@ -75,7 +71,12 @@ pub fn branch(
     ensures yields { IfOk result (λ b. yields (block b) ≡ yields (block test.block) + yields (block body) + yields (block other)) }
     ensures drawn { OnOk result (temps.new ≡ temps.old + 1) }
 {
+    let Part {
+        block: first,
+        value,
+    } = test;
+    let args = argument(alloc, value)?;
     let truth = temps.fresh()?;
-    let whole = branched(alloc, test, line, truth, body, other)?;
+    let whole = branch_on(first, args, line, truth, body, other)?;
     Ok(whole)
 }

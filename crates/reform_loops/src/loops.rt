@@ -1,9 +1,11 @@
 //! Loops.
 
-ghost use Rattle.std.specs.Prelude.{◌≡◌, ℕ, ◌+◌, ◌≤◌, List, Bool, Option, OnOk, IfOk};
+ghost use Rattle.std.specs.Prelude.{◌≡◌, ℕ, ◌+◌, ◌≤◌, List, [], ◌∷◌, Bool, Option, OnOk, IfOk};
 ghost use Rattle.op_forms.specs.declared.constant.Const.{Const as Constant};
 ghost use Rattle.op_forms.specs.declared.op.Op.{Op as Operation};
 ghost use Rattle.node_tree.specs.declared.node.Argument.{Argument as Taken};
+ghost use Rattle.node_tree.specs.declared.node.Argument.TheVariants as argument;
+ghost use Rattle.node_tree.specs.declared.node.Operand.{Operand as Tested};
 ghost use Rattle.node_tree.specs.Contents.{operations, constants, operand_constants, yields};
 ghost use Rattle.node_tree.specs.Tree.{block};
 ghost use Rattle.py_meaning.specs.Syntax as syntax;
@@ -12,23 +14,25 @@ ghost use Rattle.nu_carries.specs.Carries.{CarriesExpression, CarriesStatement, 
 ghost use Rattle.nu_carries.specs.Laws.{Within, turn_block};
 ghost use Rattle.reform_loops.specs.Kept.{asks, flags};
 
-use crate::branches::branched;
-use node_tree::{Block, Node, Operand, Temps};
+use crate::branches::branch_on;
+use node_tree::{Argument, Block, Node, Operand, Temps};
 use op_forms::Const;
-use reform_base::{Part, ended, one};
+use reform_base::{Part, argument, ended, one};
 use sqlite_items::Items;
 use std::alloc::{AllocError, Global};
 
-// A turn: the body in a loop of its own where the test is true; else the loop is over, and `over` says that its test failed.
+/// A turn: the body in a loop of its own where the test is true; else the loop is over, and `over` says that its test failed. The test
+/// comes as its block and what holds its value.
 fn turn(
     alloc: Global,
-    test: Part,
+    first: Block,
+    args: Items<Argument>,
     body: Block,
     line: u32,
     over: u64,
     truth: u64,
 ) -> Result<Block, AllocError>
-    ensures { IfOk result (λ b. block b ≡ turn_block line over truth (block test.block) test.value (block body)) }
+    ensures { IfOk result (λ b. (o : Tested) → args ≡ argument.Value o ∷ [] → block b ≡ turn_block line over truth (block first) o (block body)) }
 {
     let inner = ended(body, Node::Leave { levels: 1 })?;
     let again = one(alloc, Node::Loop { body: inner })?;
@@ -40,7 +44,7 @@ fn turn(
         },
     )?;
     let fails = ended(fails, Node::Leave { levels: 1 })?;
-    let whole = branched(alloc, test, line, truth, again, fails)?;
+    let whole = branch_on(first, args, line, truth, again, fails)?;
     Ok(whole)
 }
 
@@ -64,9 +68,14 @@ pub fn while_loop(
     ensures yields { IfOk result (λ b. yields (block b) ≡ yields (block test.block) + yields (block body) + yields (block other)) }
     ensures drawn { OnOk result (temps.new ≡ temps.old + 1 + 1) }
 {
+    let Part {
+        block: first,
+        value,
+    } = test;
+    let args = argument(alloc, value)?;
     let over = temps.fresh()?;
     let truth = temps.fresh()?;
-    let turn = turn(alloc, test, body, line, over, truth)?;
+    let turn = turn(alloc, first, args, body, line, over, truth)?;
     let begins = one(
         alloc,
         Node::Constant {

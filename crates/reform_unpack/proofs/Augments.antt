@@ -1,5 +1,5 @@
 -- Augmented assignments to names, from blocks that read the name, evaluate the right side and store.
-use Rattle.std.proofs.Common.{◌≡◌, ◌⊎◌, inl, inr, ℕ, ◌+◌, ◌<◌, ◌≤◌, List, [], ◌∷◌, ◌++◌, Option, Some, None, refl, sym, ap, ◌∙◌, subst, arith}
+use Rattle.std.proofs.Common.{◌≡◌, ◌⊎◌, inl, inr, ℕ, ◌+◌, ◌<◌, ◌≤◌, List, [], ◌∷◌, ◌++◌, Option, Some, None, refl, sym, ap, ◌∙◌, subst, arith, append_assoc}
 use Rattle.nu_value.specs.declared.value.Value.{Value}
 use Rattle.op_forms.specs.declared.op.Op.{Op}
 use Rattle.node_tree.specs.declared.node.Argument.{Argument}
@@ -8,6 +8,7 @@ use Rattle.node_tree.specs.declared.node.Node.{Node, Do}
 use Rattle.node_tree.specs.declared.node.Operand.{Operand}
 use Rattle.node_tree.specs.declared.node.Operand.TheVariants as operand
 use Rattle.node_tree.specs.Blocks as tree
+use Rattle.node_tree.proofs.Direct.{block_append, total_append}
 use Rattle.node_tree.specs.Contents.{form_total, total}
 use Rattle.node_tree.specs.Nodes as nodes
 use Rattle.node_tree.specs.Tree.{form, block}
@@ -19,7 +20,6 @@ use Rattle.nu_carries.proofs.Sequence.{weaken, more_leaves, seq_carried, then_ca
 use Rattle.nu_carries.proofs.Operations.{operate_carried}
 use Rattle.nu_carries.proofs.Small.{within_off}
 use Rattle.reform_expr.specs.declared.home.Home.{Home}
-use Rattle.reform_expr.proofs.Blocks.{block_append, append_assoc, total_append}
 use Rattle.reform_expr.proofs.Operands.{within_apart}
 use Rattle.reform_unpack.specs.declared.place.Place.{Place}
 use Rattle.reform_unpack.specs.declared.place.Place.TheVariants as place

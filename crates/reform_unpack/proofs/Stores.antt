@@ -8,10 +8,10 @@ use Rattle.node_tree.specs.declared.node.Operand.TheVariants as operand
 use Rattle.node_tree.specs.Nodes as nodes
 use Rattle.py_meaning.specs.Syntax as syntax
 use Rattle.py_meaning.specs.Frames as python
+use Rattle.node_tree.specs.Blocks.{alone}
 use Rattle.node_tree.specs.Blocks as tree
 use Rattle.nu_carries.specs.Frames.{Homes, behind, Fact, Holds, Facts}
 use Rattle.nu_carries.specs.Carries.{CarriesTarget}
-use Rattle.nu_carries.specs.Laws.{alone}
 use Rattle.nu_carries.proofs.Facts.{outside_off}
 use Rattle.nu_carries.proofs.Sequence.{weaken, one_carried}
 use Rattle.nu_carries.proofs.Operations.{operate_carried}

@@ -13,11 +13,10 @@ ghost use Rattle.reform_unpack.specs.Places.{value_of, target_of, reads, stores}
 
 use crate::assigned::assign;
 use crate::place::Place;
-use node_tree::{Argument, Block, Node, Operand, Temps};
+use node_tree::{Block, Node, Operand, Temps};
 use op_forms::Op;
-use reform_base::{Part, ended, joined};
+use reform_base::{Part, argument, ended, joined};
 use reform_expr::name;
-use sqlite_items::Items;
 use std::alloc::{AllocError, Global};
 
 /// The value of a target.
@@ -51,12 +50,20 @@ pub fn augment(
     ensures contents { IfOk result (λ b. (count : tree.Form → ℕ) → total count (block b) ≡ count (reads temps.old place) + total count (block right.block) + count (tree.Do (temps.old + 1) line op (argument.Value (operand.Temp temps.old) ∷ argument.Value right.value ∷ [])) + count (stores (temps.old + 2) (operand.Temp (temps.old + 1)) place)) }
     ensures drawn { OnOk result (temps.new ≡ temps.old + 3) }
 {
+    let Part {
+        block: then,
+        value: second,
+    } = right;
+    let last = argument(alloc, second)?;
     let read = target(alloc, &place, temps)?;
+    let Part {
+        block: first,
+        value,
+    } = read;
+    let mut args = argument(alloc, value)?;
+    args.append(last)?;
     let to = temps.fresh()?;
-    let mut args = Items::new(alloc);
-    args.push(Argument::Value(read.value))?;
-    args.push(Argument::Value(right.value))?;
-    let operands = joined(read.block, right.block)?;
+    let operands = joined(first, then)?;
     let asked = ended(operands, Node::Do { to, line, op, args })?;
     let stored = assign(alloc, Operand::Temp(to), place, temps)?;
     let block = joined(asked, stored)?;

@@ -7,7 +7,7 @@ ghost use Rattle.op_rules.specs.IntRows as spec;
 ghost use Rattle.op_rules.specs.Numbers as numbers;
 
 use nu_run::StopKind;
-use nu_value::{Heap, Object, Sameness, Value, range_len, same_value};
+use nu_value::{Heap, Integer, Object, Sameness, Value, range_len, same_value};
 use op_forms::{Op, OpEnd};
 use op_rules::{Computed, compute, compute_one, no_operand, no_operands, no_order, raised};
 use std::alloc::{AllocError, Global};
@@ -23,7 +23,7 @@ fn computed_end(alloc: Global, computed: Computed) -> Result<OpEnd, AllocError>
     ensures { IfOk result (λ e. e ≡ numbers.computed_end computed) }
 {
     match computed {
-        Computed::Int(number) => Ok(OpEnd::Give(Value::Int(number))),
+        Computed::Int(number) => Ok(OpEnd::Give(Value::Int(Integer::new(number)))),
         Computed::TooLarge => Ok(OpEnd::Stop(StopKind::Int)),
         Computed::Float => Ok(OpEnd::Stop(StopKind::Float)),
         Computed::ZeroDivision => raised(alloc, 23, "integer division or modulo by zero"),
@@ -168,7 +168,7 @@ fn object_truth(heap: &Heap, number: u64) -> OpEnd
         Some(Object::List(items)) => give_bool(items.len() != 0),
         Some(Object::Dict(pairs)) => give_bool(pairs.len() != 0),
         Some(Object::Range { start, stop, step }) => give_bool(
-            range_len(*start, *stop, *step) != 0,
+            range_len(start.get(), stop.get(), step.get()) != 0,
         ),
         Some(Object::View { dict, .. }) => give_bool(dict_truth(heap, *dict)),
         Some(Object::Instance { .. }) => OpEnd::Stop(StopKind::Unbuilt),
@@ -183,7 +183,7 @@ pub fn truth_row(heap: &Heap, a: &Value) -> OpEnd
         Value::Unset => OpEnd::Stop(StopKind::Unbuilt),
         Value::None => give_bool(false),
         Value::Bool(truth) => give_bool(*truth),
-        Value::Int(number) => give_bool(*number != 0),
+        Value::Int(number) => give_bool(number.get() != 0),
         Value::Str(text) => give_bool(!text.as_str().is_empty()),
         Value::Obj(number) => object_truth(heap, *number),
     }

@@ -45,7 +45,7 @@ fn is_code(world: &World, value: &Value) -> bool
 {
     let count = world.codes.len() as i128;
     match value {
-        Value::Int(number) => 0 <= *number && *number < count,
+        Value::Int(number) => 0 <= number.get() && number.get() < count,
         Value::Bool(true) => 1 < count,
         Value::Bool(false) => 0 < count,
         _ => false,

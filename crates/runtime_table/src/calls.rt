@@ -45,7 +45,7 @@ fn print_value(alloc: Global, value: &Value) -> Result<OpEnd, AllocError>
         Value::None => print_line(alloc, "None"),
         Value::Bool(true) => print_line(alloc, "True"),
         Value::Bool(false) => print_line(alloc, "False"),
-        Value::Int(number) => print_number(alloc, *number),
+        Value::Int(number) => print_number(alloc, number.get()),
         Value::Str(text) => print_line(alloc, text.as_str()),
         Value::Unset | Value::Obj(_) => Ok(OpEnd::Stop(StopKind::Unbuilt)),
     }

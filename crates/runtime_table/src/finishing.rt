@@ -12,7 +12,7 @@ ghost use Rattle.op_forms.specs.Sound.{AfterIn, EndIn, IsIn, Sound};
 
 use crate::arguments::object_of;
 use nu_run::StopKind;
-use nu_value::{Heap, Items, Object, Value};
+use nu_value::{Heap, Integer, Items, Object, Value};
 use op_forms::{After, OpEnd, World};
 use op_rules::{finishing_keeps_sound, raised};
 use std::alloc::{AllocError, Global};
@@ -39,7 +39,7 @@ fn length(alloc: Global, value: &Value) -> Result<OpEnd, AllocError>
     if length < 0 {
         raised(alloc, VALUE_ERROR, "__len__() should return >= 0")
     } else {
-        Ok(OpEnd::Give(Value::Int(length)))
+        Ok(OpEnd::Give(Value::Int(Integer::new(length))))
     }
 }
 

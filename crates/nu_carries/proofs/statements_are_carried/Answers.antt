@@ -1,10 +1,12 @@
 use Rattle.std.proofs.Common.{refl, arith}
 use Rattle.py_meaning.specs.Syntax as syntax
-use Rattle.nu_carries.proofs.Statements.{evaluate_carried, block_carried, if_carried, while_carried, return_carried, leave_carried, local_target_carried}
+use Rattle.nu_carries.proofs.Statements.{done_carried, pass_carried, evaluate_carried, block_carried, if_carried, while_carried, return_carried, leave_carried, local_target_carried}
 use Rattle.nu_carries.proofs.statements_are_carried.Goals as goal
 
 pub returns : goal.returns
 returns c = record {
+  done = done_carried;
+  pass = pass_carried;
   evaluate = evaluate_carried;
   then = block_carried;
   branch = if_carried;

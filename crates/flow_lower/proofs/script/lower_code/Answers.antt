@@ -6,8 +6,8 @@ use Rattle.flow_lower.specs.Lower.{labels, copies, function_lines}
 use Rattle.flow_lower.proofs.Emitted.{emit_function}
 use Rattle.flow_lower.proofs.script.lower_code.Goals as goal
 
-pub returns : goal.returns
-returns c = record {
+pub returns-clause-lowers : goal.returns-clause-lowers
+returns-clause-lowers c = record {
   scope = c.in_ok-share.ensures;
   params = c.in_ok-share_shape.ensures;
   generator = refl;
@@ -20,3 +20,6 @@ returns c = record {
       (λ tail. c.in_ok-put_parameters.ensures.lines tail ∙ ap (λ n. copies flat.Parameter n 0 0 tail) c.len.ensures) (c.in_ok-put_parameters.ensures.many ∙ c.len.ensures) c.in_ok-put_free.ensures c.in_ok-lower_nodes.ensures.lines c.in_ok-put.ensures c.in_ok-put_fail.ensures
       ∙ ap (λ l. function_lines (length c.args.code.now.params) c.args.code.now.free (block l)) c.as_slice-nodes.ensures;
 }
+
+pub returns-clause-room : goal.returns-clause-room
+returns-clause-room c = ?

@@ -1,14 +1,16 @@
-use Rattle.std.proofs.Common.{◌≡◌, ◌+◌, [], ◌++◌, refl, sym, ◌∙◌, ap, subst, arith, rules, None, Err}
+use Rattle.std.proofs.Common.{◌≡◌, ◌+◌, [], ◌++◌, refl, sym, ◌∙◌, ap, subst, arith, rules, None, Err, true}
 use Rattle.nu_run.specs.Steps.{More}
 use Rattle.op_rules.specs.TableRules.{table_rules}
 use Rattle.c_meaning.specs.State.{printed_in}
 use Rattle.c_meaning.specs.Step.{step}
 use Rattle.c_machine.specs.Machines.{answer_at_rest}
 use Rattle.c_machine.specs.Calls.{Runs, Walks, counted}
+use Rattle.c_machine.specs.Effects.{placed_for}
+use Rattle.c_machine.specs.Light.{is_light}
 use Rattle.c_machine.specs.Standing.{Outside, state_of, stands, printing}
 use Rattle.c_machine.specs.Walks.{Leads}
 use Rattle.c_machine.proofs.Sinks.{adds_nothing, adds_more}
-use Rattle.c_machine.proofs.Stretches.{Stretch, rest_none, rest_ended, at_work, answer_more, answer_ended, stretch_on, stretch_far, stretch_end, stretch_rest, run_goes, run_ends, runs_cut_at, counted_more, counted_sum}
+use Rattle.c_machine.proofs.Stretches.{Stretch, stands_going, rest_none, rest_ended, at_work, answer_more, answer_ended, stretch_on, stretch_far, stretch_end, stretch_rest, run_goes, run_ends, runs_cut_at, counted_more, counted_sum}
 use Rattle.c_machine.proofs.machine.Machine.run.Goals as goal
 
 pub returns-in-Some-clause-runs : goal.returns-in-Some-clause-runs
@@ -43,6 +45,15 @@ returns-in_err-step-clause-walks g c = λ works.
     let same : Err c.in_err-step.field-0.0 ≡ c.from_residual.result = search rules in
     subst (Walks c.args.self.now.code c.args.steps c.args.self.now c.step.new.self) same
     (c.loop-taken.taken, stretch.0, c.loop-taken.self.standing, c.loop-taken-test.true, going, record { leads = stretch.2 }, gave.steps ∙ before.steps, gave.end ∙ going)
+
+pub returns-in_err-step-clause-sure : goal.returns-in_err-step-clause-sure
+returns-in_err-step-clause-sure g c = λ works light.
+    let before = c.loop-taken.invariant in
+    let stretch = before.stretch in
+    let going = (rest_none _ _ before.works).1 in
+    let x = c.loop-taken.self.standing.execution in
+    let one = light c.loop-taken.taken x stretch.0 c.loop-taken-test.true (λ w. (stretch.2 w).exact ∙ stands_going c.loop-taken.self.standing (printing w stretch.0) going) in
+    absurd (c.in_err-step.ensures.sure before.works (subst (λ k. is_light x (placed_for k x) ≡ true) (sym before.code) one))
 
 pub returns-in-Ended-clause-runs : goal.returns-in-Ended-clause-runs
 returns-in-Ended-clause-runs g c = λ works left.

@@ -1,6 +1,0 @@
-pub mod Program
-pub mod Writable
-pub mod Contents
-pub mod Correct
-pub mod Fits
-pub mod Laws

@@ -1,0 +1,5 @@
+use Rattle.c_reader.proofs.Heads.{no_kind}
+use Rattle.c_reader.proofs.function.kind.Goals as goal
+
+pub returns-in_err-rest-clause-none : goal.returns-in_err-rest-clause-none
+returns-in_err-rest-clause-none c = rw c.from_residual.ensures (no_kind c.args.text.now c.in_default.ensures.none c.in_err-rest.ensures.none)
