@@ -5,7 +5,7 @@ use Rattle.std.proofs.lemmas.Bool.Decides.{nat_tests}
 use Rattle.nu_value.specs.declared.key.Atom.{Atom}
 use Rattle.nu_value.specs.declared.value.Value.{Value}
 use Rattle.nu_value.specs.Atoms.{key_eq}
-use Rattle.nu_value.specs.Pairs.{PairList, key_place, found_at, mapped_value}
+use Rattle.nu_value.specs.Pairs.{PairList, key_place, found_at}
 use Rattle.nu_value.specs.Triples.{triples}
 use Rattle.nu_value.proofs.Triples.{mapped_triples}
 
@@ -25,5 +25,5 @@ unmapped (Some w) h = absurd (cc)
 pub lookup_absent : (es : List (List Atom × (Value × Value))) (k : List Atom) → found_at (triples es) k ≡ None → lookup (key_eq k) es ≡ None
 lookup_absent es k h =
     unmapped (lookup (key_eq k) es)
-      (mapped_triples es k
-        ∙ ap (λ o. option_map (λ p. p.2) o) (nothing_behind (triples es) (key_place (triples es) k) (behind_all _ (key_place (triples es) k) h)))
+    (mapped_triples es k
+    ∙ ap (λ o. option_map (λ p. p.2) o) (nothing_behind (triples es) (key_place (triples es) k) (behind_all _ (key_place (triples es) k) h)))
