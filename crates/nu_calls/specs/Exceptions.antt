@@ -13,8 +13,8 @@ abbrev pub place_among : List ℕ → List Native → ℕ
 place_among name [] = 0
 place_among name (n ∷ ns) = if bytes_eq (name_of n) name then 0 else suc (place_among name ns)
 
-abbrev pub number_of : Native → ℕ
-number_of n = place_among (name_of n) natives
+abbrev pub class_number : Native → ℕ
+class_number n = place_among (name_of n) natives
 
 -- an exception, and the objects with it
 pub record Thrown : Type 0 where
