@@ -109,7 +109,13 @@ fn behind_row(
                 Stmt::Augment(line, x.tree.into_inner(), op, y.tree.into_inner()),
             )
         }
-        None => made(tokens, line, depth, x.height, Stmt::Expr(line, x.tree.into_inner())),
+        None => made(
+            tokens,
+            line,
+            depth,
+            x.height,
+            Stmt::Expr(line, x.tree.into_inner()),
+        ),
     }
 }
 
@@ -137,7 +143,13 @@ fn yield_statement(
 {
     let line = tokens.line();
     let x = yield_to(alloc, tokens, depth.saturating_sub(1))?;
-    made(tokens, line, depth, x.height, Stmt::Expr(line, x.tree.into_inner()))
+    made(
+        tokens,
+        line,
+        depth,
+        x.height,
+        Stmt::Expr(line, x.tree.into_inner()),
+    )
 }
 
 #[tactic(auto, unfolding(py_statements::specs::Parse::return_statement))]
@@ -150,7 +162,13 @@ fn return_statement(
 {
     let line = tokens.take();
     let x = maybe_exprs(alloc, tokens, depth.saturating_sub(1))?;
-    made(tokens, line, depth, x.height, Stmt::Return(line, maybe_opened(x.tree)))
+    made(
+        tokens,
+        line,
+        depth,
+        x.height,
+        Stmt::Return(line, maybe_opened(x.tree)),
+    )
 }
 
 #[tactic(auto, unfolding(py_statements::specs::Parse::raise_statement))]
@@ -163,7 +181,13 @@ fn raise_statement(
 {
     let line = tokens.take();
     let x = maybe_expression(alloc, tokens, depth.saturating_sub(1))?;
-    made(tokens, line, depth, x.height, Stmt::Raise(line, maybe_opened(x.tree)))
+    made(
+        tokens,
+        line,
+        depth,
+        x.height,
+        Stmt::Raise(line, maybe_opened(x.tree)),
+    )
 }
 
 #[tactic(auto, unfolding(py_statements::specs::Parse::del_statement))]
@@ -176,7 +200,13 @@ fn del_statement(
 {
     let line = tokens.take();
     let x = exprs_to(alloc, tokens, depth.saturating_sub(1))?;
-    made(tokens, line, depth, x.height, Stmt::Del(line, x.tree.into_inner()))
+    made(
+        tokens,
+        line,
+        depth,
+        x.height,
+        Stmt::Del(line, x.tree.into_inner()),
+    )
 }
 
 #[tactic(auto, unfolding(py_statements::specs::Parse::assert_statement))]
