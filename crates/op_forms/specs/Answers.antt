@@ -1,5 +1,5 @@
 -- How operations end, and the objects after them.
-use Rattle.std.specs.Prelude.{ℕ, List, [], Option, Some, None, slice_set}
+use Rattle.std.specs.Prelude.{ℕ, List, [], Option, Some, slice_set}
 use Rattle.nu_run.specs.declared.StopKind.TheVariants as stop
 use Rattle.nu_value.specs.declared.object.Object.{Object}
 use Rattle.nu_value.specs.declared.object.Object.TheVariants as object

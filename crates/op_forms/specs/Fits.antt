@@ -1,6 +1,7 @@
 -- When arguments fit an operation: it takes as many, each of the kind that it takes at that place.
 use Rattle.std.specs.Prelude.{ℕ, pos, List, [], ◌∷◌, length, Option, Some, None, ℤ, Bool, true, false, ◌&&◌, nat_lt}
 use Rattle.std.specs.List.{list_all}
+use Rattle.nu_text.specs.Names.{is_among, built_in_names}
 use Rattle.nu_value.specs.declared.value.Value.{Value}
 use Rattle.nu_value.specs.declared.value.Value.TheVariants as value
 use Rattle.nu_value.specs.declared.object.Object.{Object}
@@ -20,9 +21,10 @@ is_in n value.Unset = false
 is_in n (value.Obj number) = nat_lt number n
 is_in n other = true
 
-abbrev pub is_unset : Value → Bool
-is_unset value.Unset = true
-is_unset other = false
+-- the name of a built-in
+abbrev pub is_built_in : Value → Bool
+is_built_in (value.Str text) = is_among built_in_names text
+is_built_in other = false
 
 abbrev pub is_bool : Value → Bool
 is_bool (value.Bool b) = true
@@ -66,7 +68,7 @@ is_exception other = false
 
 abbrev pub is_of : ArgumentKind → World → Value → Bool
 is_of kind.Name w v = is_text v
-is_of kind.BuiltinName w v = is_text v
+is_of kind.BuiltinName w v = is_built_in v
 is_of kind.Value w v = is_in (length w.heap) v
 is_of kind.Any w value.Unset = true
 is_of kind.Any w v = is_in (length w.heap) v

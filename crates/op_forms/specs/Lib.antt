@@ -2,7 +2,11 @@ pub mod Names
 pub mod Signature
 pub mod Signs
 pub mod Fits
+pub mod Parts
 pub mod Sound
 pub mod Answers
 pub mod Constants
 pub mod Rules
+pub mod Doing
+pub mod Right
+pub mod Laws

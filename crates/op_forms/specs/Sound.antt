@@ -1,5 +1,5 @@
 -- Sound worlds: every number of an object is that of an object of the kind that is asked for.
-use Rattle.std.specs.Prelude.{◌≡◌, ◌≢◌, ℕ, ◌<◌, pos, List, [], ◌∷◌, length, Option, Some, None, Bool, true, false, ◌⊎◌, slice_get}
+use Rattle.std.specs.Prelude.{◌≡◌, ◌≢◌, ℕ, ◌<◌, ◌≤◌, pos, List, [], ◌∷◌, length, Option, Some, None, ◌⊎◌, slice_get}
 use Rattle.nu_value.specs.declared.value.Value.{Value}
 use Rattle.nu_value.specs.declared.value.Value.TheVariants as value
 use Rattle.nu_value.specs.declared.object.Object.{Object}
@@ -14,23 +14,32 @@ use Rattle.op_forms.specs.declared.end.How.TheVariants as how
 use Rattle.op_forms.specs.declared.end.OpEnd.{OpEnd}
 use Rattle.op_forms.specs.declared.end.OpEnd.TheVariants as opend
 use Rattle.op_forms.specs.declared.world.World.{World}
+use Rattle.op_forms.specs.Parts.{AllOf, NamesOf, PartsOf}
 
 -- the kinds of objects that others ask for
 pub data Sort : Type 0 where
+  ATuple : Sort
+  AList : Sort
   ADict : Sort
+  ARange : Sort
   AFunction : Sort
   AClass : Sort
   AGenerator : Sort
+  AView : Sort
   ACell : Sort
   ASpace : Sort
   AnException : Sort
   Another : Sort
 
 abbrev pub sort_of : Option Object → Sort
+sort_of (Some (object.Tuple items)) = ATuple
+sort_of (Some (object.List items)) = AList
 sort_of (Some (object.Dict pairs)) = ADict
+sort_of (Some (object.Range start stop step)) = ARange
 sort_of (Some (object.Function code defaults keywords cells)) = AFunction
 sort_of (Some (object.Class name base own native)) = AClass
 sort_of (Some (object.Generator code state given cells)) = AGenerator
+sort_of (Some (object.View dict kind)) = AView
 sort_of (Some (object.Cell v)) = ACell
 sort_of (Some (object.Space names)) = ASpace
 sort_of (Some (object.Exception class args entries fields cause)) = AnException
@@ -47,14 +56,8 @@ IsIn h value.Unset = ⊥
 IsIn h (value.Obj n) = n < length h
 IsIn h other = Unit {0}
 
--- Unset, or such a value
-abbrev pub MayBeIn : List Object → Value → Type 0
-MayBeIn h (value.Obj n) = n < length h
-MayBeIn h other = Unit {0}
-
 abbrev pub AllIn : List Object → List Value → Type 0
-AllIn h [] = Unit {0}
-AllIn h (v ∷ vs) = IsIn h v × AllIn h vs
+AllIn h = AllOf (IsIn h)
 
 -- a cell
 abbrev pub IsCell : List Object → Value → Type 0
@@ -65,45 +68,67 @@ abbrev pub AreCells : List Object → List Value → Type 0
 AreCells h [] = Unit {0}
 AreCells h (v ∷ vs) = IsCell h v × AreCells h vs
 
+-- no name stands twice
+abbrev pub AreNamesDistinct : NameList → Type 0
+AreNamesDistinct [] = Unit {0}
+AreNamesDistinct (p ∷ ps) = (place_of ps p.0 ≡ length ps) × AreNamesDistinct ps
+
+-- no key stands twice
+abbrev pub AreKeysDistinct : PairList → Type 0
+AreKeysDistinct [] = Unit {0}
+AreKeysDistinct (p ∷ ps) = (key_place ps p.0 ≡ length ps) × AreKeysDistinct ps
+
 -- distinct names, with values
 abbrev pub NamesIn : List Object → NameList → Type 0
-NamesIn h [] = Unit {0}
-NamesIn h (p ∷ ps) = IsIn h p.1 × (place_of ps p.0 ≡ length ps) × NamesIn h ps
+NamesIn h ps = NamesOf (IsIn h) ps × AreNamesDistinct ps
 
--- distinct keys, with values
-abbrev pub PairsIn : List Object → PairList → Type 0
-PairsIn h [] = Unit {0}
-PairsIn h (p ∷ ps) = IsIn h p.1 × IsIn h p.2 × (key_place ps p.0 ≡ length ps) × PairsIn h ps
-
--- the class that another stands under came before, unless no script made it
-abbrev pub BaseIn : List Object → ℕ → Bool → Option ℕ → Type 0
-BaseIn h number native None = Unit {0}
-BaseIn h number true (Some base) = IsA h base AClass
-BaseIn h number false (Some base) = IsA h base AClass × (base < number)
+-- the class that another stands under came before, unless it is one of the first objects
+abbrev pub BaseIn : List Object → ℕ → Option ℕ → Type 0
+BaseIn h number None = Unit {0}
+BaseIn h number (Some base) = IsA h base AClass × (length native_classes ≤ number → base < number)
 
 -- the exception that another was raised from
 abbrev pub CauseIn : List Object → Option ℕ → Type 0
 CauseIn h None = Unit {0}
 CauseIn h (Some cause) = IsA h cause AnException
 
--- what an object names, in a heap with so many functions in the program
+-- the kinds of objects that an iterator goes over
+abbrev pub Iterates : Sort → Type 0
+Iterates ATuple = Unit {0}
+Iterates AList = Unit {0}
+Iterates ADict = Unit {0}
+Iterates ARange = Unit {0}
+Iterates AView = Unit {0}
+Iterates other = ⊥
+
+-- a text, or an object that an iterator goes over
+abbrev pub IsOver : List Object → Value → Type 0
+IsOver h (value.Str text) = Unit {0}
+IsOver h (value.Obj n) = Iterates (sort_of (slice_get h n))
+IsOver h other = ⊥
+
+-- what an object's names, keys and numbers have to be, in a heap with so many functions in the program
+abbrev pub LinksIn : ℕ → List Object → ℕ → Object → Type 0
+LinksIn codes h number (object.Tuple items) = Unit {0}
+LinksIn codes h number (object.List items) = Unit {0}
+LinksIn codes h number (object.Dict pairs) = AreKeysDistinct pairs
+LinksIn codes h number (object.Range start stop step) = step ≢ pos 0
+LinksIn codes h number (object.Function code defaults keywords cells) = (code < codes) × AreNamesDistinct keywords × AreCells h cells
+LinksIn codes h number (object.Method receiver function) = IsA h function AFunction
+LinksIn codes h number (object.Class name base own native) = BaseIn h number base × AreNamesDistinct own
+LinksIn codes h number (object.Instance class fields) = IsA h class AClass × AreNamesDistinct fields
+LinksIn codes h number (object.Generator code state given cells) = (code < codes) × AreCells h cells
+LinksIn codes h number (object.Iterator over place size over_now) = IsOver h over
+LinksIn codes h number (object.View dict kind) = IsA h dict ADict
+LinksIn codes h number (object.Cell v) = Unit {0}
+LinksIn codes h number (object.Space names) = AreNamesDistinct names
+LinksIn codes h number (object.Exception class args entries fields cause) = IsA h class AClass × AreNamesDistinct fields × CauseIn h cause
+LinksIn codes h number (object.Builtin name receiver) = Unit {0}
+LinksIn codes h number (object.Trace exception) = IsA h exception AnException
+
+-- an object names what is there, of the kinds that it asks for
 abbrev pub ObjectIn : ℕ → List Object → ℕ → Object → Type 0
-ObjectIn codes h number (object.Tuple items) = AllIn h items
-ObjectIn codes h number (object.List items) = AllIn h items
-ObjectIn codes h number (object.Dict pairs) = PairsIn h pairs
-ObjectIn codes h number (object.Range start stop step) = step ≢ pos 0
-ObjectIn codes h number (object.Function code defaults keywords cells) = (code < codes) × AllIn h defaults × NamesIn h keywords × AreCells h cells
-ObjectIn codes h number (object.Method receiver function) = IsIn h receiver × IsA h function AFunction
-ObjectIn codes h number (object.Class name base own native) = BaseIn h number native base × NamesIn h own
-ObjectIn codes h number (object.Instance class fields) = IsA h class AClass × NamesIn h fields
-ObjectIn codes h number (object.Generator code state given cells) = (code < codes) × AllIn h given × AreCells h cells
-ObjectIn codes h number (object.Iterator over place size over_now) = IsIn h over
-ObjectIn codes h number (object.View dict kind) = IsA h dict ADict
-ObjectIn codes h number (object.Cell v) = MayBeIn h v
-ObjectIn codes h number (object.Space names) = NamesIn h names
-ObjectIn codes h number (object.Exception class args entries fields cause) = IsA h class AClass × AllIn h args × NamesIn h fields × CauseIn h cause
-ObjectIn codes h number (object.Builtin name receiver) = MayBeIn h receiver
-ObjectIn codes h number (object.Trace exception) = IsA h exception AnException
+ObjectIn codes h number o = PartsOf (IsIn h) o × LinksIn codes h number o
 
 -- a heap in a program with so many functions
 pub record SoundHeap (codes : ℕ) (h : List Object) : Type 0 where

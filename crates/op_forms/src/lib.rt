@@ -4,12 +4,14 @@
 
 mod constant;
 mod end;
+mod laws;
 mod op;
 mod signature;
 mod world;
 
 pub use constant::Const;
 pub use end::{After, How, OpEnd};
+pub use laws::doings_keep_sound;
 pub use op::{OPS, Op};
 pub use signature::ArgumentKind;
 pub use world::World;

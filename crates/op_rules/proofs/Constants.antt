@@ -77,7 +77,7 @@ no_if false text = refl
 no_sized : (n : ℕ) (text : List ℕ) → given (sized n (opend.Give (value.Str text))) ≡ None
 no_sized n text = no_if (nat_le n size_limit) text
 
-order_lt : (a b : Const) → given (by_family op.Lt [] (value_of a ∷ value_of b ∷ [])) ≡ order_folded op.Lt a b
+order_lt : (a b : Const) → given (by_family op.Lt [] (value_of a ∷ value_of b ∷ [])).end ≡ order_folded op.Lt a b
 order_lt const.None const.None = refl
 order_lt const.None (const.Bool true) = refl
 order_lt const.None (const.Bool false) = refl
@@ -104,7 +104,7 @@ order_lt (const.Str x) (const.Bool false) = refl
 order_lt (const.Str x) (const.Int y) = refl
 order_lt (const.Str x) (const.Str y) = refl
 
-order_le : (a b : Const) → given (by_family op.Le [] (value_of a ∷ value_of b ∷ [])) ≡ order_folded op.Le a b
+order_le : (a b : Const) → given (by_family op.Le [] (value_of a ∷ value_of b ∷ [])).end ≡ order_folded op.Le a b
 order_le const.None const.None = refl
 order_le const.None (const.Bool true) = refl
 order_le const.None (const.Bool false) = refl
@@ -131,7 +131,7 @@ order_le (const.Str x) (const.Bool false) = refl
 order_le (const.Str x) (const.Int y) = refl
 order_le (const.Str x) (const.Str y) = refl
 
-order_gt : (a b : Const) → given (by_family op.Gt [] (value_of a ∷ value_of b ∷ [])) ≡ order_folded op.Gt a b
+order_gt : (a b : Const) → given (by_family op.Gt [] (value_of a ∷ value_of b ∷ [])).end ≡ order_folded op.Gt a b
 order_gt const.None const.None = refl
 order_gt const.None (const.Bool true) = refl
 order_gt const.None (const.Bool false) = refl
@@ -158,7 +158,7 @@ order_gt (const.Str x) (const.Bool false) = refl
 order_gt (const.Str x) (const.Int y) = refl
 order_gt (const.Str x) (const.Str y) = refl
 
-order_ge : (a b : Const) → given (by_family op.Ge [] (value_of a ∷ value_of b ∷ [])) ≡ order_folded op.Ge a b
+order_ge : (a b : Const) → given (by_family op.Ge [] (value_of a ∷ value_of b ∷ [])).end ≡ order_folded op.Ge a b
 order_ge const.None const.None = refl
 order_ge const.None (const.Bool true) = refl
 order_ge const.None (const.Bool false) = refl
@@ -185,7 +185,7 @@ order_ge (const.Str x) (const.Bool false) = refl
 order_ge (const.Str x) (const.Int y) = refl
 order_ge (const.Str x) (const.Str y) = refl
 
-pair_add : (a b : Const) → given (by_family op.Add [] (value_of a ∷ value_of b ∷ [])) ≡ pair_folded op.Add a b
+pair_add : (a b : Const) → given (by_family op.Add [] (value_of a ∷ value_of b ∷ [])).end ≡ pair_folded op.Add a b
 pair_add const.None const.None = refl
 pair_add const.None (const.Bool true) = refl
 pair_add const.None (const.Bool false) = refl
@@ -212,7 +212,7 @@ pair_add (const.Str x) (const.Bool false) = refl
 pair_add (const.Str x) (const.Int y) = refl
 pair_add (const.Str x) (const.Str y) = no_sized (characters x + characters y) (x ++ y)
 
-pair_sub : (a b : Const) → given (by_family op.Sub [] (value_of a ∷ value_of b ∷ [])) ≡ pair_folded op.Sub a b
+pair_sub : (a b : Const) → given (by_family op.Sub [] (value_of a ∷ value_of b ∷ [])).end ≡ pair_folded op.Sub a b
 pair_sub const.None const.None = refl
 pair_sub const.None (const.Bool true) = refl
 pair_sub const.None (const.Bool false) = refl
@@ -239,7 +239,7 @@ pair_sub (const.Str x) (const.Bool false) = refl
 pair_sub (const.Str x) (const.Int y) = refl
 pair_sub (const.Str x) (const.Str y) = refl
 
-pair_mul : (a b : Const) → given (by_family op.Mul [] (value_of a ∷ value_of b ∷ [])) ≡ pair_folded op.Mul a b
+pair_mul : (a b : Const) → given (by_family op.Mul [] (value_of a ∷ value_of b ∷ [])).end ≡ pair_folded op.Mul a b
 pair_mul const.None const.None = refl
 pair_mul const.None (const.Bool true) = refl
 pair_mul const.None (const.Bool false) = refl
@@ -266,7 +266,7 @@ pair_mul (const.Str x) (const.Bool false) = no_sized (characters x * 0) (copies 
 pair_mul (const.Str x) (const.Int y) = no_sized (characters x * copy_count y) (copies (copy_count y) x)
 pair_mul (const.Str x) (const.Str y) = refl
 
-pair_floordiv : (a b : Const) → given (by_family op.FloorDiv [] (value_of a ∷ value_of b ∷ [])) ≡ pair_folded op.FloorDiv a b
+pair_floordiv : (a b : Const) → given (by_family op.FloorDiv [] (value_of a ∷ value_of b ∷ [])).end ≡ pair_folded op.FloorDiv a b
 pair_floordiv const.None const.None = refl
 pair_floordiv const.None (const.Bool true) = refl
 pair_floordiv const.None (const.Bool false) = refl
@@ -293,7 +293,7 @@ pair_floordiv (const.Str x) (const.Bool false) = refl
 pair_floordiv (const.Str x) (const.Int y) = refl
 pair_floordiv (const.Str x) (const.Str y) = refl
 
-pair_mod : (a b : Const) → given (by_family op.Mod [] (value_of a ∷ value_of b ∷ [])) ≡ pair_folded op.Mod a b
+pair_mod : (a b : Const) → given (by_family op.Mod [] (value_of a ∷ value_of b ∷ [])).end ≡ pair_folded op.Mod a b
 pair_mod const.None const.None = refl
 pair_mod const.None (const.Bool true) = refl
 pair_mod const.None (const.Bool false) = refl
@@ -320,7 +320,7 @@ pair_mod (const.Str x) (const.Bool false) = refl
 pair_mod (const.Str x) (const.Int y) = refl
 pair_mod (const.Str x) (const.Str y) = refl
 
-pair_lshift : (a b : Const) → given (by_family op.LShift [] (value_of a ∷ value_of b ∷ [])) ≡ pair_folded op.LShift a b
+pair_lshift : (a b : Const) → given (by_family op.LShift [] (value_of a ∷ value_of b ∷ [])).end ≡ pair_folded op.LShift a b
 pair_lshift const.None const.None = refl
 pair_lshift const.None (const.Bool true) = refl
 pair_lshift const.None (const.Bool false) = refl
@@ -347,7 +347,7 @@ pair_lshift (const.Str x) (const.Bool false) = refl
 pair_lshift (const.Str x) (const.Int y) = refl
 pair_lshift (const.Str x) (const.Str y) = refl
 
-pair_rshift : (a b : Const) → given (by_family op.RShift [] (value_of a ∷ value_of b ∷ [])) ≡ pair_folded op.RShift a b
+pair_rshift : (a b : Const) → given (by_family op.RShift [] (value_of a ∷ value_of b ∷ [])).end ≡ pair_folded op.RShift a b
 pair_rshift const.None const.None = refl
 pair_rshift const.None (const.Bool true) = refl
 pair_rshift const.None (const.Bool false) = refl
@@ -374,7 +374,7 @@ pair_rshift (const.Str x) (const.Bool false) = refl
 pair_rshift (const.Str x) (const.Int y) = refl
 pair_rshift (const.Str x) (const.Str y) = refl
 
-pair_and : (a b : Const) → given (by_family op.And [] (value_of a ∷ value_of b ∷ [])) ≡ pair_folded op.And a b
+pair_and : (a b : Const) → given (by_family op.And [] (value_of a ∷ value_of b ∷ [])).end ≡ pair_folded op.And a b
 pair_and const.None const.None = refl
 pair_and const.None (const.Bool true) = refl
 pair_and const.None (const.Bool false) = refl
@@ -401,7 +401,7 @@ pair_and (const.Str x) (const.Bool false) = refl
 pair_and (const.Str x) (const.Int y) = refl
 pair_and (const.Str x) (const.Str y) = refl
 
-pair_or : (a b : Const) → given (by_family op.Or [] (value_of a ∷ value_of b ∷ [])) ≡ pair_folded op.Or a b
+pair_or : (a b : Const) → given (by_family op.Or [] (value_of a ∷ value_of b ∷ [])).end ≡ pair_folded op.Or a b
 pair_or const.None const.None = refl
 pair_or const.None (const.Bool true) = refl
 pair_or const.None (const.Bool false) = refl
@@ -428,7 +428,7 @@ pair_or (const.Str x) (const.Bool false) = refl
 pair_or (const.Str x) (const.Int y) = refl
 pair_or (const.Str x) (const.Str y) = refl
 
-pair_xor : (a b : Const) → given (by_family op.Xor [] (value_of a ∷ value_of b ∷ [])) ≡ pair_folded op.Xor a b
+pair_xor : (a b : Const) → given (by_family op.Xor [] (value_of a ∷ value_of b ∷ [])).end ≡ pair_folded op.Xor a b
 pair_xor const.None const.None = refl
 pair_xor const.None (const.Bool true) = refl
 pair_xor const.None (const.Bool false) = refl
@@ -455,7 +455,7 @@ pair_xor (const.Str x) (const.Bool false) = refl
 pair_xor (const.Str x) (const.Int y) = refl
 pair_xor (const.Str x) (const.Str y) = refl
 
-pair_iadd : (a b : Const) → given (by_family op.IAdd [] (value_of a ∷ value_of b ∷ [])) ≡ pair_folded op.IAdd a b
+pair_iadd : (a b : Const) → given (by_family op.IAdd [] (value_of a ∷ value_of b ∷ [])).end ≡ pair_folded op.IAdd a b
 pair_iadd const.None const.None = refl
 pair_iadd const.None (const.Bool true) = refl
 pair_iadd const.None (const.Bool false) = refl
@@ -482,7 +482,7 @@ pair_iadd (const.Str x) (const.Bool false) = refl
 pair_iadd (const.Str x) (const.Int y) = refl
 pair_iadd (const.Str x) (const.Str y) = no_sized (characters x + characters y) (x ++ y)
 
-pair_imul : (a b : Const) → given (by_family op.IMul [] (value_of a ∷ value_of b ∷ [])) ≡ pair_folded op.IMul a b
+pair_imul : (a b : Const) → given (by_family op.IMul [] (value_of a ∷ value_of b ∷ [])).end ≡ pair_folded op.IMul a b
 pair_imul const.None const.None = refl
 pair_imul const.None (const.Bool true) = refl
 pair_imul const.None (const.Bool false) = refl

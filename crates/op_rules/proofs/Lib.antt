@@ -1,10 +1,9 @@
 mod Ranges
 mod Division
 mod Powers
-pub mod Worlds
-mod Bindings
+pub mod Usual
 pub mod Plain
-mod Keeping
+pub mod Rows
+pub mod Keeping
 mod Start
-mod Finishing
 mod Constants

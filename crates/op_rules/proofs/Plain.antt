@@ -2,7 +2,7 @@
 use Rattle.std.proofs.Common.{ℕ, ◌+◌, ◌*◌, ◌<◌, List, [], ◌∷◌, ◌++◌, Option, Some, None, Bool, true, false, length, lit<, inl}
 use Rattle.std.specs.Prelude.{ℤ, if◌then◌else◌, slice_get}
 use Rattle.std.specs.Str.{bytes_eq}
-use Rattle.std.specs.Prelude.{codes, nat_le, not}
+use Rattle.std.specs.Prelude.{codes, nat_le, not, int_lt, pos}
 use Rattle.nu_value.specs.declared.object.Object.{Object}
 use Rattle.nu_value.specs.declared.object.Object.TheVariants as object
 use Rattle.nu_value.specs.declared.same.Sameness.{Sameness}
@@ -15,8 +15,6 @@ use Rattle.op_rules.specs.declared.arithmetic.Computed.{Computed}
 use Rattle.op_rules.specs.declared.arithmetic.Computed.TheVariants as computed
 use Rattle.op_forms.specs.declared.end.OpEnd.{OpEnd}
 use Rattle.op_forms.specs.declared.end.OpEnd.TheVariants as opend
-use Rattle.op_rules.specs.declared.family.Family.{Family}
-use Rattle.op_rules.specs.declared.family.Family.TheVariants as family
 use Rattle.op_forms.specs.declared.op.Op.{Op}
 use Rattle.op_forms.specs.declared.op.Op.TheVariants as op
 use Rattle.op_rules.specs.Numbers.{int_op, unary_op, computed_end}
@@ -24,15 +22,14 @@ use Rattle.op_rules.specs.Comparisons.{same_end, not_row, truth_row, object_trut
 use Rattle.op_rules.specs.IntRows.{of_one, of_two, on_number, on_numbers, bool_op, bool_or, number_pair, number_order, number_one, int_row}
 use Rattle.nu_text.specs.Characters.{characters}
 use Rattle.op_rules.specs.TextRows.{sized, size_limit, repeated_by, copy_count, copies, text_add, text_mul, text_mod, text_pair, text_operation, on_texts, text_order, text_row}
+use Rattle.op_rules.specs.Finish.{truth_after, length_after}
+use Rattle.op_rules.specs.Kinds.{value_error}
 use Rattle.op_rules.specs.CallRows.{text_of, printed, print_row, call_object, call_value, call_row}
-use Rattle.op_rules.specs.Table.{family_row, family_of, by_family}
-use Rattle.op_forms.specs.Sound.{SoundHeap, EndIn}
-use Rattle.op_rules.proofs.Worlds.{native_class}
-
-abbrev IsPlainValue : Value → Type 0
-IsPlainValue value.Unset = ⊥
-IsPlainValue (value.Obj n) = ⊥
-IsPlainValue v = Unit {0}
+use Rattle.op_forms.specs.declared.world.World.{World}
+use Rattle.op_forms.specs.Doing.{ends}
+use Rattle.op_forms.specs.Parts.{AllOf}
+use Rattle.op_forms.specs.Right.{Claim, IsPlainValue, Closed, EndOf, Right}
+use Rattle.op_rules.proofs.Usual.{ended}
 
 abbrev IsPlainText : List Value → Type 0
 IsPlainText (value.Str text ∷ []) = Unit {0}
@@ -47,32 +44,22 @@ IsPlain (opend.Put text) = Unit {0}
 IsPlain opend.Line = Unit {0}
 IsPlain (opend.Stop kind) = Unit {0}
 
-given_in : (h : List Object) (v : Value) → IsPlainValue v → EndIn h (opend.Give v)
-given_in h value.Unset p = p
-given_in h value.None p = tt
-given_in h (value.Bool b) p = tt
-given_in h (value.Int z) p = tt
-given_in h (value.Str text) p = tt
-given_in h (value.Obj n) p = absurd p
+-- they are right
+module _ (c : Claim) (w : World) (k : Closed c w) where
+  texts_of : (args : List Value) → IsPlainText args → AllOf c.of args
+  texts_of (value.Str text ∷ []) p = (k.plain (value.Str text) tt, tt)
+  texts_of args p = absurd p
 
-raised_in : (codes : ℕ) (h : List Object) → SoundHeap codes h → (n : ℕ) (args : List Value) → n < length native_classes → IsPlainText args → EndIn h (opend.Raise n args)
-raised_in codes h s n [] small p = absurd p
-raised_in codes h s n (value.Str text ∷ []) small p = (inl (native_class codes h s n small), (tt, tt))
-raised_in codes h s n (value.Str text ∷ v ∷ vs) small p = absurd p
-raised_in codes h s n (value.Unset ∷ vs) small p = absurd p
-raised_in codes h s n (value.None ∷ vs) small p = absurd p
-raised_in codes h s n (value.Bool b ∷ vs) small p = absurd p
-raised_in codes h s n (value.Int z ∷ vs) small p = absurd p
-raised_in codes h s n (value.Obj m ∷ vs) small p = absurd p
+  pub plain_end : (e : OpEnd) → IsPlain e → EndOf c w e
+  plain_end (opend.Give v) p = k.plain v p
+  plain_end (opend.Raise n args) p = (inl (k.natives n p.0), texts_of args p.1)
+  plain_end (opend.Put text) p = tt
+  plain_end opend.Line p = tt
+  plain_end (opend.Stop kind) p = tt
+  plain_end e p = absurd p
 
-pub plain_in : (codes : ℕ) (h : List Object) → SoundHeap codes h → (e : OpEnd) → IsPlain e → EndIn h e
-plain_in codes h s (opend.Give v) p = given_in h v p
-plain_in codes h s (opend.Raise n args) p = raised_in codes h s n args p.0 p.1
-plain_in codes h s (opend.Ask function items names after) p = absurd p
-plain_in codes h s (opend.Resume generator how) p = absurd p
-plain_in codes h s (opend.Put text) p = tt
-plain_in codes h s opend.Line p = tt
-plain_in codes h s (opend.Stop kind) p = tt
+  pub plain_right : (e : OpEnd) → IsPlain e → Right c w (ends e)
+  plain_right e p = ended c w k e (plain_end e p)
 
 -- ---- shapes of rows
 
@@ -251,7 +238,7 @@ texts_plain f other (value.Obj n) b p q = q
 text_order_plain : (o : Op) (h : List Object) (a b : Value) → IsPlain (text_order o h a b)
 text_order_plain o h a b = texts_plain _ _ a b (λ s t. tt) (lit< tt, tt)
 
-text_plain : (o : Op) (h : List Object) (args : List Value) → IsPlain (text_row o h args)
+pub text_plain : (o : Op) (h : List Object) (args : List Value) → IsPlain (text_row o h args)
 text_plain op.Add h args = two_plain _ (operation_plain op.Add h) args
 text_plain op.Sub h args = two_plain _ (operation_plain op.Sub h) args
 text_plain op.Mul h args = two_plain _ (operation_plain op.Mul h) args
@@ -273,16 +260,6 @@ text_plain op.Neg h args = one_plain _ (λ a. (lit< tt, tt)) args
 text_plain op.Pos h args = one_plain _ (λ a. (lit< tt, tt)) args
 text_plain op.Inv h args = one_plain _ (λ a. (lit< tt, tt)) args
 text_plain other h args = tt
-
-family_plain : (f : Family) (o : Op) (h : List Object) (args : List Value) → IsPlain (family_row f o h args)
-family_plain family.Integers o h args = int_plain o h args
-family_plain family.Texts o h args = text_plain o h args
-family_plain family.Classes o h args = tt
-family_plain family.Dicts o h args = tt
-family_plain family.Sequences o h args = tt
-
-pub by_family_plain : (o : Op) (h : List Object) (args : List Value) → IsPlain (by_family o h args)
-by_family_plain o h args = family_plain (family_of h args) o h args
 
 -- ---- calls
 
@@ -314,3 +291,13 @@ call_value_plain h (value.Str text) args = (lit< tt, tt)
 pub call_plain : (h : List Object) (args : List Value) → IsPlain (call_row h args)
 call_plain h [] = tt
 call_plain h (f ∷ args) = call_value_plain h f args
+
+-- ---- the values of asked functions
+
+pub truth_after_plain : (v : Value) → IsPlain (truth_after v)
+truth_after_plain (value.Bool b) = tt
+truth_after_plain v = (lit< tt, tt)
+
+pub length_after_plain : (f : ℤ → OpEnd) (n : Option ℤ) → ((z : ℤ) → IsPlain (f z)) → IsPlain (length_after f n)
+length_after_plain f None p = (lit< tt, tt)
+length_after_plain f (Some z) p = if_plain (int_lt z (pos 0)) (value_error (codes "__len__() should return >= 0")) (f z) (lit< tt, tt) (p z)

@@ -1,21 +1,25 @@
 -- The world in which a run begins is sound.
-use Rattle.std.proofs.Common.{◌≡◌, ℕ, zero, suc, List, [], ◌∷◌, ◌++◌, Some, refl, subst, length, lit<}
+use Rattle.std.proofs.Common.{◌≡◌, ℕ, zero, suc, ◌+◌, ◌<◌, ◌≤◌, List, [], ◌∷◌, ◌++◌, Some, true, refl, subst, arith, length, lit<}
 use Rattle.std.specs.Prelude.{slice_get, codes}
 use Rattle.nu_value.specs.declared.header.Header.{Header}
 use Rattle.nu_value.specs.declared.object.Object.{Object}
+use Rattle.nu_value.specs.declared.object.Object.TheVariants as object
 use Rattle.nu_value.specs.Natives.{native_classes}
 use Rattle.op_rules.specs.Start.{first_objects, start_world}
 use Rattle.op_forms.specs.Sound.{AClass, IsA, ObjectIn, Sound}
-use Rattle.op_rules.proofs.Worlds.{before_end}
+use Rattle.op_forms.proofs.Grown.{before_end}
 
-abbrev AllObjects : ℕ → List Object → List Object → Type 0
-AllObjects codes h [] = Unit {0}
-AllObjects codes h (o ∷ os) = ((number : ℕ) → ObjectIn codes h number o) × AllObjects codes h os
+-- objects from a number on
+abbrev AllObjects : ℕ → List Object → ℕ → List Object → Type 0
+AllObjects codes h number [] = Unit {0}
+AllObjects codes h number (o ∷ os) = ObjectIn codes h number o × AllObjects codes h (1 + number) os
 
-at_place : (codes : ℕ) (h os : List Object) → AllObjects codes h os → (n number : ℕ) (o : Object) → slice_get os n ≡ Some o → ObjectIn codes h number o
-at_place codes h [] a n number o e = absurd (cc)
-at_place codes h (x ∷ os) a zero number o e = let same : x ≡ o = cc in subst (λ y. ObjectIn codes h number y) same (a.0 number)
-at_place codes h (x ∷ os) a (suc n) number o e = at_place codes h os a.1 n number o e
+at_place : (codes : ℕ) (h : List Object) (number : ℕ) (os : List Object) → AllObjects codes h number os → (n : ℕ) (o : Object) → slice_get os n ≡ Some o → ObjectIn codes h (n + number) o
+at_place codes h number [] a n o e = absurd (cc)
+at_place codes h number (x ∷ os) a zero o e =
+    let same : x ≡ o = cc in subst (λ k. ObjectIn codes h k o) (omega arith) (subst (λ y. ObjectIn codes h number y) same a.0)
+at_place codes h number (x ∷ os) a (suc n) o e =
+    subst (λ k. ObjectIn codes h k o) (omega arith) (at_place codes h (1 + number) os a.1 n o e)
 
 abbrev start : List Object
 start = native_classes ++ first_objects
@@ -44,14 +48,19 @@ class_30 = record { there = lit< tt; sort = refl }
 class_32 : IsA start 32 AClass
 class_32 = record { there = lit< tt; sort = refl }
 
-all_start : (codes : ℕ) → AllObjects codes start start
-all_start codes = ((λ n. (tt, tt)), ((λ n. (class_0, tt)), ((λ n. (class_3, tt)), ((λ n. (class_0, tt)), ((λ n. (class_0, tt)), ((λ n. (class_0, tt)), ((λ n. (class_0, tt)), ((λ n. (class_0, tt)), ((λ n. (class_0, tt)), ((λ n. (class_0, tt)), ((λ n. (class_0, tt)), ((λ n. (class_0, tt)), ((λ n. (class_0, tt)), ((λ n. (class_0, tt)), ((λ n. (class_0, tt)), ((λ n. (class_0, tt)), ((λ n. (class_0, tt)), ((λ n. (class_0, tt)), ((λ n. (class_0, tt)), ((λ n. (class_0, tt)), ((λ n. (class_19, tt)), ((λ n. (class_19, tt)), ((λ n. (class_20, tt)), ((λ n. (class_22, tt)), ((λ n. (class_20, tt)), ((λ n. (class_20, tt)), ((λ n. (class_20, tt)), ((λ n. (class_20, tt)), ((λ n. (class_27, tt)), ((λ n. (class_27, tt)), ((λ n. (class_20, tt)), ((λ n. (class_30, tt)), ((λ n. (class_20, tt)), ((λ n. (class_32, tt)), ((λ n. (class_20, tt)), ((λ n. (class_20, tt)), ((λ n. (class_20, tt)), ((λ n. (lit< tt, refl, tt)), ((λ n. tt), ((λ n. (tt, refl, tt)), tt))))))))))))))))))))))))))))))))))))))))
+-- a class under another; its name is no part
+under : (codes n base : ℕ) → n < 37 → IsA start base AClass → ObjectIn codes start n (object.Class [] (Some base) [] true)
+under codes n base small a =
+    ((a.there, tt), ((a, λ behind. let h : 37 ≤ n = behind in absurd (omega (arith, h, small))), tt))
+
+all_start : (codes : ℕ) → AllObjects codes start 0 start
+all_start codes = (((tt, tt), (tt, tt)), (under codes 1 0 (lit< tt) class_0, (under codes 2 3 (lit< tt) class_3, (under codes 3 0 (lit< tt) class_0, (under codes 4 0 (lit< tt) class_0, (under codes 5 0 (lit< tt) class_0, (under codes 6 0 (lit< tt) class_0, (under codes 7 0 (lit< tt) class_0, (under codes 8 0 (lit< tt) class_0, (under codes 9 0 (lit< tt) class_0, (under codes 10 0 (lit< tt) class_0, (under codes 11 0 (lit< tt) class_0, (under codes 12 0 (lit< tt) class_0, (under codes 13 0 (lit< tt) class_0, (under codes 14 0 (lit< tt) class_0, (under codes 15 0 (lit< tt) class_0, (under codes 16 0 (lit< tt) class_0, (under codes 17 0 (lit< tt) class_0, (under codes 18 0 (lit< tt) class_0, (under codes 19 0 (lit< tt) class_0, (under codes 20 19 (lit< tt) class_19, (under codes 21 19 (lit< tt) class_19, (under codes 22 20 (lit< tt) class_20, (under codes 23 22 (lit< tt) class_22, (under codes 24 20 (lit< tt) class_20, (under codes 25 20 (lit< tt) class_20, (under codes 26 20 (lit< tt) class_20, (under codes 27 20 (lit< tt) class_20, (under codes 28 27 (lit< tt) class_27, (under codes 29 27 (lit< tt) class_27, (under codes 30 20 (lit< tt) class_20, (under codes 31 30 (lit< tt) class_30, (under codes 32 20 (lit< tt) class_20, (under codes 33 32 (lit< tt) class_32, (under codes 34 20 (lit< tt) class_20, (under codes 35 20 (lit< tt) class_20, (under codes 36 20 (lit< tt) class_20, (((lit< tt, tt), (refl, tt)), ((tt, tt), (((tt, tt), (refl, tt)), tt))))))))))))))))))))))))))))))))))))))))
 
 pub start_sound : (headers : List Header) → Sound (start_world headers)
 start_sound headers =
     record {
       heap = record {
-        objects = λ n o e. at_place (length headers) start start (all_start (length headers)) n n o e;
+        objects = λ n o e. subst (λ k. ObjectIn (length headers) start k o) (omega arith) (at_place (length headers) start 0 start (all_start (length headers)) n o e);
         natives = λ n small. before_end native_classes first_objects n small;
       };
       first = refl;

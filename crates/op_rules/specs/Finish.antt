@@ -1,5 +1,5 @@
 -- What becomes of the value of a function that an operation asked.
-use Rattle.std.specs.Prelude.{ℤ, pos, List, [], ◌∷◌, ◌++◌, Option, Some, None, Bool, true, false, not, codes, if◌then◌else◌, int_lt, length}
+use Rattle.std.specs.Prelude.{ℤ, pos, List, Option, Some, None, Bool, true, false, not, codes, if◌then◌else◌, int_lt}
 use Rattle.std.specs.Ordering.{int_eq}
 use Rattle.nu_value.specs.declared.value.Value.{Value}
 use Rattle.nu_value.specs.declared.value.Value.TheVariants as value
@@ -12,7 +12,8 @@ use Rattle.op_forms.specs.declared.end.After.{After}
 use Rattle.op_forms.specs.declared.end.After.TheVariants as after
 use Rattle.op_forms.specs.declared.world.World.{World}
 use Rattle.op_rules.specs.Kinds.{type_error, value_error}
-use Rattle.op_forms.specs.Answers.{Answer, keeps, later}
+use Rattle.op_forms.specs.Answers.{Answer}
+use Rattle.op_forms.specs.Doing.{Doing, nothing, ends, gives, makes, answer}
 use Rattle.op_rules.specs.Comparisons.{give_bool}
 
 abbrev pub truth_after : Value → OpEnd
@@ -33,17 +34,20 @@ abbrev pub made_after : Value → Value → OpEnd
 made_after value.None answer = opend.Give value.None
 made_after made answer = if is_none answer then opend.Give made else type_error (codes "__init__() should return None")
 
-abbrev pub tuple_after : List Object → Option Object → Answer
-tuple_after h (Some (object.List items)) = record { end = opend.Give (value.Obj (length h)); heap = h ++ object.Tuple items ∷ [] }
-tuple_after h other = later h
+abbrev pub tuple_after : List Object → Option Object → Doing
+tuple_after h (Some (object.List items)) = makes h (object.Tuple items)
+tuple_after h other = nothing
 
 -- Joining comes with the methods of texts, and a report is the machine's own.
+abbrev pub finishing : After → List Object → Value → Doing
+finishing after.Plain h v = gives v
+finishing after.Truth h v = ends (truth_after v)
+finishing after.Some h v = ends (length_after (λ z. give_bool (not (int_eq z (pos 0)))) (number_of v))
+finishing after.Length h v = ends (length_after (λ z. opend.Give (value.Int z)) (number_of v))
+finishing (after.Made made) h v = ends (made_after made v)
+finishing (after.Join text) h v = nothing
+finishing after.Tuple h v = tuple_after h (object_of h v)
+finishing (after.Report exception) h v = nothing
+
 abbrev pub finished : After → World → Value → Answer
-finished after.Plain w v = keeps w.heap (opend.Give v)
-finished after.Truth w v = keeps w.heap (truth_after v)
-finished after.Some w v = keeps w.heap (length_after (λ z. give_bool (not (int_eq z (pos 0)))) (number_of v))
-finished after.Length w v = keeps w.heap (length_after (λ z. opend.Give (value.Int z)) (number_of v))
-finished (after.Made made) w v = keeps w.heap (made_after made v)
-finished (after.Join text) w v = later w.heap
-finished after.Tuple w v = tuple_after w.heap (object_of w.heap v)
-finished (after.Report exception) w v = later w.heap
+finished a w v = answer w (finishing a w.heap v)

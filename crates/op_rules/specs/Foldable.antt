@@ -1,6 +1,5 @@
 -- Operations on constants, done before the program runs.
 use Rattle.std.specs.Prelude.{List, [], map, Option, Some, None, Bool, true, false, ◌&&◌, if◌then◌else◌}
-use Rattle.nu_value.specs.declared.value.Value.{Value}
 use Rattle.nu_value.specs.declared.value.Value.TheVariants as value
 use Rattle.op_forms.specs.declared.constant.Const.{Const}
 use Rattle.op_forms.specs.declared.constant.Const.TheVariants as const
@@ -11,7 +10,7 @@ use Rattle.op_forms.specs.declared.op.Op.TheVariants as op
 use Rattle.op_forms.specs.declared.world.World.{World}
 use Rattle.op_forms.specs.Constants.{value_of}
 use Rattle.op_forms.specs.Fits.{fits}
-use Rattle.op_rules.specs.Table.{row}
+use Rattle.op_rules.specs.Table.{doing}
 
 abbrev pub is_foldable : Op → Bool
 is_foldable op.Truth = true
@@ -54,4 +53,4 @@ no_world = record { heap = []; «module» = 0; builtins = 0; codes = [] }
 -- what a foldable row gives for constants that fit it
 abbrev pub folded : Op → List Const → Option Const
 folded o args =
-    if is_foldable o && fits o no_world (map value_of args) then given (row o no_world (map value_of args)).end else None
+    if is_foldable o && fits o no_world (map value_of args) then given (doing o no_world (map value_of args)).end else None

@@ -6,6 +6,7 @@ pub mod IntRows
 pub mod TextRows
 pub mod NameRows
 pub mod CallRows
+pub mod Binding
 pub mod Table
 pub mod TableRules
 pub mod Foldable

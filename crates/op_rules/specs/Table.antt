@@ -4,17 +4,18 @@ use Rattle.nu_value.specs.declared.value.Value.{Value}
 use Rattle.nu_value.specs.declared.value.Value.TheVariants as value
 use Rattle.nu_value.specs.declared.object.Object.{Object}
 use Rattle.nu_value.specs.declared.object.Object.TheVariants as object
-use Rattle.op_forms.specs.declared.end.OpEnd.{OpEnd}
 use Rattle.op_rules.specs.declared.family.Family.{Family}
 use Rattle.op_rules.specs.declared.family.Family.TheVariants as family
 use Rattle.op_forms.specs.declared.op.Op.{Op}
 use Rattle.op_forms.specs.declared.op.Op.TheVariants as op
 use Rattle.op_forms.specs.declared.world.World.{World}
-use Rattle.op_forms.specs.Answers.{Answer, keeps, later, unbuilt}
-use Rattle.op_rules.specs.NameRows.{global_row, setglobal_row, delglobal_row, local_row, cell_row, cellset_row, cellget_row, celldel_row, freeget_row, freedel_row, of_name, of_name_value, of_value_name, of_none, of_two_values}
+use Rattle.op_forms.specs.Answers.{Answer}
+use Rattle.op_forms.specs.Doing.{Doing, nothing, ends, answer}
+use Rattle.op_rules.specs.NameRows.{names}
 use Rattle.op_rules.specs.IntRows.{int_row}
 use Rattle.op_rules.specs.TextRows.{text_row}
 use Rattle.op_rules.specs.CallRows.{call_row}
+use Rattle.op_rules.specs.Binding.{bound}
 
 abbrev pub object_family : Option Object → Family
 object_family (Some (object.Instance class fields)) = family.Classes
@@ -49,51 +50,73 @@ abbrev pub family_of : List Object → List Value → Family
 family_of h [] = family.Integers
 family_of h (v ∷ vs) = first_family (value_family h v) (family_of h vs)
 
-abbrev pub family_row : Family → Op → List Object → List Value → OpEnd
-family_row family.Integers o h args = int_row o h args
-family_row family.Texts o h args = text_row o h args
-family_row other o h args = unbuilt
+abbrev pub family_row : Family → Op → List Object → List Value → Doing
+family_row family.Integers o h args = ends (int_row o h args)
+family_row family.Texts o h args = ends (text_row o h args)
+family_row other o h args = nothing
 
 -- an operation that goes by the kinds of all its operands
-abbrev pub by_family : Op → List Object → List Value → OpEnd
+abbrev pub by_family : Op → List Object → List Value → Doing
 by_family o h args = family_row (family_of h args) o h args
 
+pub data Group : Type 0 where
+  Names : Group
+  Operators : Group
+  Comparing : Group
+  Calling : Group
+  Others : Group
+
+abbrev pub group : Op → Group
+group op.Global = Names
+group op.SetGlobal = Names
+group op.DelGlobal = Names
+group op.Local = Names
+group op.Cell = Names
+group op.CellSet = Names
+group op.CellGet = Names
+group op.CellDel = Names
+group op.FreeGet = Names
+group op.FreeDel = Names
+group op.Add = Operators
+group op.Sub = Operators
+group op.Mul = Operators
+group op.FloorDiv = Operators
+group op.Mod = Operators
+group op.Pow = Operators
+group op.LShift = Operators
+group op.RShift = Operators
+group op.And = Operators
+group op.Or = Operators
+group op.Xor = Operators
+group op.Neg = Operators
+group op.Pos = Operators
+group op.Inv = Operators
+group op.IAdd = Operators
+group op.IMul = Operators
+group op.Lt = Operators
+group op.Le = Operators
+group op.Gt = Operators
+group op.Ge = Operators
+group op.Eq = Comparing
+group op.Ne = Comparing
+group op.Is = Comparing
+group op.IsNot = Comparing
+group op.Not = Comparing
+group op.Truth = Comparing
+group op.Call = Calling
+group other = Others
+
+-- what an operation does; one that isn't built yet is the stop Unbuilt
+abbrev pub row_of : Group → Op → World → List Value → Doing
+row_of Names o w args = names o w args
+row_of Operators o w args = by_family o w.heap args
+row_of Comparing o w args = ends (int_row o w.heap args)
+row_of Calling o w args = ends (call_row w.heap args)
+row_of Others o w args = nothing
+
+abbrev pub doing : Op → World → List Value → Doing
+doing o w args = row_of (group o) o w args
+
+-- and a function that it asks is bound
 abbrev pub row : Op → World → List Value → Answer
-row op.Global w args = of_name w.heap (λ name. keeps w.heap (global_row w name)) args
-row op.SetGlobal w args = of_name_value w.heap (setglobal_row w) args
-row op.DelGlobal w args = of_name w.heap (delglobal_row w) args
-row op.Local w args = of_value_name w.heap (λ v name. keeps w.heap (local_row v name)) args
-row op.Cell w args = of_none w.heap (cell_row w.heap) args
-row op.CellSet w args = of_two_values w.heap (cellset_row w.heap) args
-row op.CellGet w args = of_value_name w.heap (λ v name. keeps w.heap (cellget_row w.heap v name)) args
-row op.CellDel w args = of_value_name w.heap (celldel_row w.heap) args
-row op.FreeGet w args = of_value_name w.heap (λ v name. keeps w.heap (freeget_row w.heap v name)) args
-row op.FreeDel w args = of_value_name w.heap (freedel_row w.heap) args
-row op.Add w args = keeps w.heap (by_family op.Add w.heap args)
-row op.Sub w args = keeps w.heap (by_family op.Sub w.heap args)
-row op.Mul w args = keeps w.heap (by_family op.Mul w.heap args)
-row op.FloorDiv w args = keeps w.heap (by_family op.FloorDiv w.heap args)
-row op.Mod w args = keeps w.heap (by_family op.Mod w.heap args)
-row op.Pow w args = keeps w.heap (by_family op.Pow w.heap args)
-row op.LShift w args = keeps w.heap (by_family op.LShift w.heap args)
-row op.RShift w args = keeps w.heap (by_family op.RShift w.heap args)
-row op.And w args = keeps w.heap (by_family op.And w.heap args)
-row op.Or w args = keeps w.heap (by_family op.Or w.heap args)
-row op.Xor w args = keeps w.heap (by_family op.Xor w.heap args)
-row op.Neg w args = keeps w.heap (by_family op.Neg w.heap args)
-row op.Pos w args = keeps w.heap (by_family op.Pos w.heap args)
-row op.Inv w args = keeps w.heap (by_family op.Inv w.heap args)
-row op.IAdd w args = keeps w.heap (by_family op.IAdd w.heap args)
-row op.IMul w args = keeps w.heap (by_family op.IMul w.heap args)
-row op.Lt w args = keeps w.heap (by_family op.Lt w.heap args)
-row op.Le w args = keeps w.heap (by_family op.Le w.heap args)
-row op.Gt w args = keeps w.heap (by_family op.Gt w.heap args)
-row op.Ge w args = keeps w.heap (by_family op.Ge w.heap args)
-row op.Eq w args = keeps w.heap (int_row op.Eq w.heap args)
-row op.Ne w args = keeps w.heap (int_row op.Ne w.heap args)
-row op.Is w args = keeps w.heap (int_row op.Is w.heap args)
-row op.IsNot w args = keeps w.heap (int_row op.IsNot w.heap args)
-row op.Not w args = keeps w.heap (int_row op.Not w.heap args)
-row op.Truth w args = keeps w.heap (int_row op.Truth w.heap args)
-row op.Call w args = keeps w.heap (call_row w.heap args)
-row other w args = later w.heap
+row o w args = bound w (answer w (doing o w args))

@@ -1,5 +1,5 @@
 -- The rows on texts (library reference, "Common Sequence Operations" and "Text Sequence Type").
-use Rattle.std.specs.Prelude.{ℕ, zero, suc, ◌+◌, ◌*◌, ℤ, pos, negsuc, List, [], ◌∷◌, ◌++◌, Option, Some, None, ◌||◌, if◌then◌else◌, nat_lt, nat_le}
+use Rattle.std.specs.Prelude.{ℕ, zero, suc, ◌+◌, ◌*◌, ℤ, pos, negsuc, List, [], ◌++◌, Option, Some, None, if◌then◌else◌, nat_le}
 use Rattle.nu_run.specs.declared.StopKind.TheVariants as stop
 use Rattle.nu_text.specs.Characters.{characters}
 use Rattle.nu_value.specs.declared.value.Value.{Value}

@@ -1,5 +1,5 @@
-use Rattle.op_rules.proofs.Finishing.{finishing_kept}
+use Rattle.op_rules.proofs.Keeping.{finishing_sound}
 use Rattle.op_rules.proofs.laws.finishing_keeps_sound.Goals as goal
 
 pub returns : goal.returns
-returns c = finishing_kept
+returns c = finishing_sound c.doings_keep_sound.ensures

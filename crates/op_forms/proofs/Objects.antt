@@ -1,0 +1,164 @@
+-- The parts and links of objects, where a claim follows from another, and where one is changed.
+use Rattle.std.proofs.Common.{◌≡◌, ℕ, ◌<◌, List, [], ◌∷◌, Option, Some, None, false, refl, sym, subst, ◌∙◌, arith, length}
+use Rattle.std.specs.Prelude.{slice_get}
+use Rattle.std.proofs.lemmas.Option.{slice_get_within}
+use Rattle.nu_value.specs.declared.value.Value.{Value}
+use Rattle.nu_value.specs.declared.value.Value.TheVariants as value
+use Rattle.nu_value.specs.declared.object.Object.{Object}
+use Rattle.nu_value.specs.declared.object.Object.TheVariants as object
+use Rattle.nu_value.specs.Names.{NameList}
+use Rattle.nu_value.specs.Pairs.{PairList}
+use Rattle.op_forms.specs.declared.world.World.{World}
+use Rattle.op_forms.specs.Doing.{Change, Fill, Bind, Unbind, Hold, Move, Finish, Put, Fit, changed_by}
+use Rattle.op_forms.specs.Parts.{AllOf, NamesOf, PairsOf, OrUnset, NumberOf, PartsOf}
+use Rattle.op_forms.specs.Right.{Grows, Claim, ChangeOf}
+use Rattle.op_forms.specs.Sound.{Sort, sort_of, IsA, IsIn, AreCells, BaseIn, CauseIn, Iterates, IsOver, LinksIn, ObjectIn}
+use Rattle.op_forms.proofs.Bindings.{distinct_with, distinct_without, names_with, names_without}
+use Rattle.op_forms.proofs.Dicts.{distinct_put, pairs_with}
+
+-- ---- from one claim to another
+
+module _ (P Q : Value → Type 0) (f : (v : Value) → P v → Q v) where
+  pub all_by : (vs : List Value) → AllOf P vs → AllOf Q vs
+  all_by [] p = tt
+  all_by (v ∷ vs) p = (f v p.0, all_by vs p.1)
+
+  pub names_by : (ps : NameList) → NamesOf P ps → NamesOf Q ps
+  names_by [] p = tt
+  names_by (q ∷ ps) p = (f q.1 p.0, names_by ps p.1)
+
+  pairs_by : (ps : PairList) → PairsOf P ps → PairsOf Q ps
+  pairs_by [] p = tt
+  pairs_by (q ∷ ps) p = (f q.1 p.0, f q.2 p.1, pairs_by ps p.2)
+
+  unset_by : (v : Value) → OrUnset P v → OrUnset Q v
+  unset_by value.Unset p = tt
+  unset_by v p = f v p
+
+  number_by : (n : Option ℕ) → NumberOf P n → NumberOf Q n
+  number_by None p = tt
+  number_by (Some n) p = f (value.Obj n) p
+
+  pub parts_by : (o : Object) → PartsOf P o → PartsOf Q o
+  parts_by (object.Tuple items) p = all_by items p
+  parts_by (object.List items) p = all_by items p
+  parts_by (object.Dict pairs) p = pairs_by pairs p
+  parts_by (object.Range start stop step) p = tt
+  parts_by (object.Function code defaults keywords cells) p = (all_by defaults p.0, names_by keywords p.1, all_by cells p.2)
+  parts_by (object.Method receiver function) p = (f receiver p.0, f (value.Obj function) p.1)
+  parts_by (object.Class name base own native) p = (number_by base p.0, names_by own p.1)
+  parts_by (object.Instance class fields) p = (f (value.Obj class) p.0, names_by fields p.1)
+  parts_by (object.Generator code state given cells) p = (all_by given p.0, all_by cells p.1)
+  parts_by (object.Iterator over place size over_now) p = f over p
+  parts_by (object.View dict kind) p = f (value.Obj dict) p
+  parts_by (object.Cell v) p = unset_by v p
+  parts_by (object.Space names) p = names_by names p
+  parts_by (object.Exception class args entries fields cause) p =
+      (f (value.Obj class) p.0, all_by args p.1, names_by fields p.2, number_by cause p.3)
+  parts_by (object.Builtin name receiver) p = unset_by receiver p
+  parts_by (object.Trace exception) p = f (value.Obj exception) p
+
+-- ---- where an object is changed
+
+pub changed_parts : (c : Claim) (w : World) (k : Change) (o : Object) → PartsOf c.of o → ChangeOf c w k → PartsOf c.of (changed_by k o)
+changed_parts c w (Fill items) (object.List old) p q = q
+changed_parts c w (Bind name v) (object.Space names) p q = names_with c.of names name v p q
+changed_parts c w (Bind name v) (object.Instance class fields) p q = (p.0, names_with c.of fields name v p.1 q)
+changed_parts c w (Bind name v) (object.Exception class args entries fields cause) p q =
+    (p.0, p.1, names_with c.of fields name v p.2 q, p.3)
+changed_parts c w (Bind name v) (object.Class own base names false) p q = (p.0, names_with c.of names name v p.1 q)
+changed_parts c w (Unbind name) (object.Space names) p q = names_without c.of names name p
+changed_parts c w (Unbind name) (object.Instance class fields) p q = (p.0, names_without c.of fields name p.1)
+changed_parts c w (Unbind name) (object.Exception class args entries fields cause) p q =
+    (p.0, p.1, names_without c.of fields name p.2, p.3)
+changed_parts c w (Unbind name) (object.Class own base names false) p q = (p.0, names_without c.of names name p.1)
+changed_parts c w (Hold v) (object.Cell old) p q = q
+changed_parts c w (Move place size) (object.Iterator over old older over_now) p q = p
+changed_parts c w Finish (object.Iterator over place size over_now) p q = p
+changed_parts c w (Put key given v) (object.Dict pairs) p q = pairs_with c.of pairs key given v p q.0 q.1
+changed_parts c w (Fit pairs) (object.Dict old) p q = q.0
+changed_parts c w k o p q = p
+
+pub changed_links : (c : Claim) (w : World) (codes : ℕ) (h : List Object) (n : ℕ) (k : Change) (o : Object) → LinksIn codes h n o → ChangeOf c w k → LinksIn codes h n (changed_by k o)
+changed_links c w codes h n (Fill items) (object.List old) l q = l
+changed_links c w codes h n (Bind name v) (object.Space names) l q = distinct_with names name v l
+changed_links c w codes h n (Bind name v) (object.Instance class fields) l q = (l.0, distinct_with fields name v l.1)
+changed_links c w codes h n (Bind name v) (object.Exception class args entries fields cause) l q =
+    (l.0, distinct_with fields name v l.1, l.2)
+changed_links c w codes h n (Bind name v) (object.Class own base names false) l q = (l.0, distinct_with names name v l.1)
+changed_links c w codes h n (Unbind name) (object.Space names) l q = distinct_without names name l
+changed_links c w codes h n (Unbind name) (object.Instance class fields) l q = (l.0, distinct_without fields name l.1)
+changed_links c w codes h n (Unbind name) (object.Exception class args entries fields cause) l q =
+    (l.0, distinct_without fields name l.1, l.2)
+changed_links c w codes h n (Unbind name) (object.Class own base names false) l q = (l.0, distinct_without names name l.1)
+changed_links c w codes h n (Hold v) (object.Cell old) l q = l
+changed_links c w codes h n (Move place size) (object.Iterator over old older over_now) l q = l
+changed_links c w codes h n Finish (object.Iterator over place size over_now) l q = l
+changed_links c w codes h n (Put key given v) (object.Dict pairs) l q = distinct_put pairs key given v l
+changed_links c w codes h n (Fit pairs) (object.Dict old) l q = q.1
+changed_links c w codes h n k o l q = l
+
+-- its kind stays
+pub changed_sort : (c : Change) (o : Object) → sort_of (Some (changed_by c o)) ≡ sort_of (Some o)
+changed_sort (Fill items) (object.List old) = refl
+changed_sort (Bind name v) (object.Space names) = refl
+changed_sort (Bind name v) (object.Instance class fields) = refl
+changed_sort (Bind name v) (object.Exception class args entries fields cause) = refl
+changed_sort (Bind name v) (object.Class own base names false) = refl
+changed_sort (Unbind name) (object.Space names) = refl
+changed_sort (Unbind name) (object.Instance class fields) = refl
+changed_sort (Unbind name) (object.Exception class args entries fields cause) = refl
+changed_sort (Unbind name) (object.Class own base names false) = refl
+changed_sort (Hold v) (object.Cell old) = refl
+changed_sort (Move place size) (object.Iterator over old older over_now) = refl
+changed_sort Finish (object.Iterator over place size over_now) = refl
+changed_sort (Put key given v) (object.Dict pairs) = refl
+changed_sort (Fit pairs) (object.Dict old) = refl
+changed_sort c o = refl
+
+-- ---- in a heap that has grown
+
+module _ (h more : List Object) (g : Grows h more) where
+  pub is_a_more : (n : ℕ) (s : Sort) → IsA h n s → IsA more n s
+  is_a_more n s a = record { there = omega (arith, g.longer, a.there); sort = g.sorts n a.there ∙ a.sort }
+
+  pub in_more : (v : Value) → IsIn h v → IsIn more v
+  in_more value.Unset p = p
+  in_more (value.Obj n) p = omega (arith, g.longer)
+  in_more v p = tt
+
+  cells_more : (vs : List Value) → AreCells h vs → AreCells more vs
+  cells_more [] p = tt
+  cells_more (value.Obj n ∷ vs) p = (is_a_more n _ p.0, cells_more vs p.1)
+  cells_more (v ∷ vs) p = absurd p.0
+
+  base_more : (n : ℕ) (b : Option ℕ) → BaseIn h n b → BaseIn more n b
+  base_more n None p = tt
+  base_more n (Some b) p = (is_a_more b _ p.0, p.1)
+
+  cause_more : (n : Option ℕ) → CauseIn h n → CauseIn more n
+  cause_more None p = tt
+  cause_more (Some n) p = is_a_more n _ p
+
+  over_there : (n : ℕ) (o : Option Object) → slice_get h n ≡ o → Iterates (sort_of o) → n < length h
+  over_there n None e p = absurd p
+  over_there n (Some o) e p = slice_get_within h n o e
+
+  over_more : (v : Value) → IsOver h v → IsOver more v
+  over_more (value.Obj n) p = subst Iterates (sym (g.sorts n (over_there n (slice_get h n) refl p))) p
+  over_more v p = p
+
+  pub links_more : (codes n : ℕ) (o : Object) → LinksIn codes h n o → LinksIn codes more n o
+  links_more codes n (object.Function code defaults keywords cells) l = (l.0, l.1, cells_more cells l.2)
+  links_more codes n (object.Method receiver function) l = is_a_more function _ l
+  links_more codes n (object.Class name base own native) l = (base_more n base l.0, l.1)
+  links_more codes n (object.Instance class fields) l = (is_a_more class _ l.0, l.1)
+  links_more codes n (object.Generator code state given cells) l = (l.0, cells_more cells l.1)
+  links_more codes n (object.Iterator over place size over_now) l = over_more over l
+  links_more codes n (object.View dict kind) l = is_a_more dict _ l
+  links_more codes n (object.Exception class args entries fields cause) l = (is_a_more class _ l.0, l.1, cause_more cause l.2)
+  links_more codes n (object.Trace exception) l = is_a_more exception _ l
+  links_more codes n o l = l
+
+  pub object_more : (codes n : ℕ) (o : Object) → ObjectIn codes h n o → ObjectIn codes more n o
+  object_more codes n o p = (parts_by (IsIn h) (IsIn more) in_more o p.0, links_more codes n o p.1)

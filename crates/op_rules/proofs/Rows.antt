@@ -1,0 +1,154 @@
+-- Every row uses only what it is given, what it finds there and what it makes.
+use Rattle.std.proofs.Common.{ℕ, List, [], ◌∷◌, Option, Some, None, lit<, inr}
+use Rattle.std.specs.Prelude.{pos, not, slice_get}
+use Rattle.std.specs.Ordering.{int_eq}
+use Rattle.nu_value.specs.declared.object.Object.{Object}
+use Rattle.nu_value.specs.declared.object.Object.TheVariants as object
+use Rattle.nu_value.specs.declared.value.Value.{Value}
+use Rattle.nu_value.specs.declared.value.Value.TheVariants as value
+use Rattle.nu_value.specs.Names.{value_at}
+use Rattle.nu_value.specs.Same.{number_of, object_of}
+use Rattle.op_forms.specs.declared.end.After.{After}
+use Rattle.op_forms.specs.declared.end.After.TheVariants as behind
+use Rattle.op_forms.specs.declared.end.OpEnd.{OpEnd}
+use Rattle.op_forms.specs.declared.end.OpEnd.TheVariants as opend
+use Rattle.op_forms.specs.declared.op.Op.{Op}
+use Rattle.op_forms.specs.declared.op.Op.TheVariants as op
+use Rattle.op_forms.specs.declared.world.World.{World}
+use Rattle.op_forms.specs.Answers.{names_of}
+use Rattle.op_forms.specs.Doing.{Bind, Unbind, Hold, ends}
+use Rattle.op_forms.specs.Parts.{NamesOf, ValueOf, OrUnset}
+use Rattle.op_forms.specs.Right.{Claim, Known, Closed, Given, AfterOf, EndOf, Right}
+use Rattle.op_forms.proofs.Bindings.{value_of}
+use Rattle.op_rules.specs.declared.family.Family.{Family}
+use Rattle.op_rules.specs.declared.family.Family.TheVariants as family
+use Rattle.op_rules.specs.Binding.{bound_end}
+use Rattle.op_rules.specs.Comparisons.{give_bool}
+use Rattle.op_rules.specs.Finish.{is_none, made_after, tuple_after, finishing}
+use Rattle.op_rules.specs.NameRows.{no_local, no_free, value_or, global_row, forgotten, set_or, local_row, held, held_by, cellset_row, emptied, names}
+use Rattle.op_rules.specs.Table.{family_row, family_of, Group, Names, Operators, Comparing, Calling, Others, row_of}
+use Rattle.op_rules.proofs.Plain.{plain_right, int_plain, text_plain, call_plain, truth_after_plain, length_after_plain}
+use Rattle.op_rules.proofs.Usual.{ended, fails, failed, idle, given_right, change_right, made_right, if_end}
+
+module _ (c : Claim) (w : World) (k : Closed c w) where
+  -- ---- names
+
+  value_right : (v : Option Value) (e : OpEnd) → ValueOf c.of v → EndOf c w e → EndOf c w (value_or v e)
+  value_right None e p q = q
+  value_right (Some v) e p q = p
+
+  names_at : (n : ℕ) (o : Option Object) → Known c w n o → NamesOf c.of (names_of o)
+  names_at n (Some (object.Space names)) p = p.parts
+  names_at n o p = tt
+
+  looked_up : (n : ℕ) (name : List ℕ) → ValueOf c.of (value_at (names_of (slice_get w.heap n)) name)
+  looked_up n name = value_of c.of (names_of (slice_get w.heap n)) name (names_at n (slice_get w.heap n) (k.objects n))
+
+  global_right : (name : List ℕ) → Right c w (ends (global_row w name))
+  global_right name =
+      ended c w k (global_row w name)
+      (value_right _ _ (looked_up w.«module» name) (value_right _ _ (looked_up w.builtins name) (fails c w k 30 _ (lit< tt))))
+
+  forgotten_right : (name : List ℕ) (v : Option Value) → Right c w (forgotten w name v)
+  forgotten_right name None = failed c w k 30 _ (lit< tt)
+  forgotten_right name (Some v) = change_right c w k w.«module» (Unbind name) (tt, inr tt)
+
+  set_right : (other : OpEnd) (v : Value) → OrUnset c.of v → EndOf c w other → EndOf c w (set_or other v)
+  set_right other value.Unset p q = q
+  set_right other v p q = p
+
+  local_right : (v : Value) (name : List ℕ) → OrUnset c.of v → Right c w (ends (local_row v name))
+  local_right v name p = ended c w k (local_row v name) (set_right (no_local name) v p (fails c w k 31 _ (lit< tt)))
+
+  held_at : (n : ℕ) (o : Option Object) → Known c w n o → OrUnset c.of (held o)
+  held_at n (Some (object.Cell v)) p = p.parts
+  held_at n o p = tt
+
+  held_right : (cell : Value) → OrUnset c.of (held_by w.heap cell)
+  held_right (value.Obj n) = held_at n (slice_get w.heap n) (k.objects n)
+  held_right cell = tt
+
+  get_right : (other : OpEnd) (cell : Value) → EndOf c w other → Right c w (ends (set_or other (held_by w.heap cell)))
+  get_right other cell q = ended c w k _ (set_right other (held_by w.heap cell) (held_right cell) q)
+
+  cellset_right : (cell v : Value) → OrUnset c.of v → Right c w (cellset_row cell v)
+  cellset_right (value.Obj n) v p = change_right c w k n (Hold v) (p, inr tt)
+  cellset_right cell v p = idle c w k
+
+  emptied_right : (cell : Value) (other : OpEnd) (v : Value) → EndOf c w other → Right c w (emptied cell other v)
+  emptied_right cell other value.Unset q = ended c w k other q
+  emptied_right cell other v q = cellset_right cell value.Unset tt
+
+  set_of : (v : Value) → c.of v → OrUnset c.of v
+  set_of value.Unset p = tt
+  set_of v p = p
+
+  names_right : (o : Op) (args : List Value) → Given c o args → Right c w (names o w args)
+  names_right op.Global (value.Str name ∷ []) q = global_right name
+  names_right op.SetGlobal (value.Str name ∷ v ∷ []) q = change_right c w k w.«module» (Bind name v) (q.1.0, inr tt)
+  names_right op.DelGlobal (value.Str name ∷ []) q = forgotten_right name (value_at (names_of (slice_get w.heap w.«module»)) name)
+  names_right op.Local (v ∷ value.Str name ∷ []) q = local_right v name q.0
+  names_right op.Cell [] q = made_right c w k (object.Cell value.Unset) (tt, tt, tt)
+  names_right op.CellSet (cell ∷ v ∷ []) q = cellset_right cell v (set_of v q.1.0)
+  names_right op.CellGet (cell ∷ value.Str name ∷ []) q = get_right (no_local name) cell (fails c w k 31 _ (lit< tt))
+  names_right op.CellDel (cell ∷ value.Str name ∷ []) q = emptied_right cell (no_local name) (held_by w.heap cell) (fails c w k 31 _ (lit< tt))
+  names_right op.FreeGet (cell ∷ value.Str name ∷ []) q = get_right (no_free name) cell (fails c w k 30 _ (lit< tt))
+  names_right op.FreeDel (cell ∷ value.Str name ∷ []) q = emptied_right cell (no_free name) (held_by w.heap cell) (fails c w k 30 _ (lit< tt))
+  names_right o args q = idle c w k
+
+  -- ---- operators
+
+  family_right : (f : Family) (o : Op) (args : List Value) → Right c w (family_row f o w.heap args)
+  family_right family.Integers o args = plain_right c w k _ (int_plain o w.heap args)
+  family_right family.Texts o args = plain_right c w k _ (text_plain o w.heap args)
+  family_right f o args = idle c w k
+
+  -- ---- the table
+
+  pub row_right : (g : Group) (o : Op) (args : List Value) → Given c o args → Right c w (row_of g o w args)
+  row_right Names o args q = names_right o args q
+  row_right Operators o args q = family_right (family_of w.heap args) o args
+  row_right Comparing o args q = plain_right c w k _ (int_plain o w.heap args)
+  row_right Calling o args q = plain_right c w k _ (call_plain w.heap args)
+  row_right Others o args q = idle c w k
+
+  -- ---- binding
+
+  -- nothing is asked for any more
+  abbrev pub Asked : OpEnd → Type 0
+  Asked (opend.Ask f args names a) = ⊥
+  Asked other = Unit {0}
+
+  pub bound_right : (e : OpEnd) → EndOf c w e → Right c w (bound_end w e) × Asked (bound_end w e).end
+  bound_right (opend.Ask f args names a) p = (idle c w k, tt)
+  bound_right (opend.Give v) p = (ended c w k (opend.Give v) p, tt)
+  bound_right (opend.Raise n args) p = (ended c w k (opend.Raise n args) p, tt)
+  bound_right (opend.Resume g how) p = (ended c w k (opend.Resume g how) p, tt)
+  bound_right (opend.Put text) p = (ended c w k (opend.Put text) p, tt)
+  bound_right opend.Line p = (ended c w k opend.Line p, tt)
+  bound_right (opend.Stop kind) p = (ended c w k (opend.Stop kind) p, tt)
+
+  -- ---- the values of asked functions
+
+  made_after_right : (made v : Value) → c.of made → EndOf c w (made_after made v)
+  made_after_right value.None v p = p
+  made_after_right made v p = if_end c w k (is_none v) (opend.Give made) _ p (fails c w k 35 _ (lit< tt))
+
+  tuple_after_right : (n : ℕ) (o : Option Object) → Known c w n o → Right c w (tuple_after w.heap o)
+  tuple_after_right n (Some (object.List items)) p = made_right c w k (object.Tuple items) (p.parts, tt, tt)
+  tuple_after_right n o p = idle c w k
+
+  value_tuple_right : (v : Value) → Right c w (tuple_after w.heap (object_of w.heap v))
+  value_tuple_right (value.Obj n) = tuple_after_right n (slice_get w.heap n) (k.objects n)
+  value_tuple_right v = idle c w k
+
+  pub finishing_right : (a : After) (v : Value) → AfterOf c w a → c.of v → Right c w (finishing a w.heap v)
+  finishing_right behind.Plain v p q = given_right c w k v q
+  finishing_right behind.Truth v p q = plain_right c w k _ (truth_after_plain v)
+  finishing_right behind.Some v p q =
+      plain_right c w k _ (length_after_plain (λ z. give_bool (not (int_eq z (pos 0)))) (number_of v) (λ z. tt))
+  finishing_right behind.Length v p q = plain_right c w k _ (length_after_plain (λ z. opend.Give (value.Int z)) (number_of v) (λ z. tt))
+  finishing_right (behind.Made made) v p q = ended c w k _ (made_after_right made v p)
+  finishing_right (behind.Join text) v p q = idle c w k
+  finishing_right behind.Tuple v p q = value_tuple_right v
+  finishing_right (behind.Report exception) v p q = idle c w k
