@@ -9,7 +9,7 @@ use c_machine::{Machine, Stepped, start};
 use c_reader::read;
 use nu_base::{MemSink, MemSource};
 use nu_value::{Codes, Heap, Items, Object, Slots, Value};
-use op_rules::{After, OpEnd};
+use op_forms::{After, OpEnd};
 use py_expr::{ParseEnd, expression, exprs, params, target, targets};
 use py_lexer::lex;
 use runtime_table::{World, finish};
