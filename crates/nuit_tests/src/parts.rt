@@ -8,7 +8,7 @@
 use c_machine::{Machine, Stepped, start};
 use c_reader::read;
 use nu_base::{MemSink, MemSource};
-use nu_value::{Codes, Heap, Items, Object, Slots, Value};
+use nu_value::{Codes, Heap, Integer, Items, Object, Slots, Value};
 use op_forms::{After, OpEnd};
 use py_expr::{ParseEnd, expression, exprs, params, target, targets};
 use py_lexer::lex;
@@ -18,7 +18,7 @@ use std::test::Fail;
 #[test]
 fn lists_take_values_at_any_place(rt: HostRuntime) -> Result<(), Fail> {
     let mut items = Items::new(rt.alloc());
-    items.push(Value::Int(1))?;
+    items.push(Value::Int(Integer::new(1)))?;
     items.insert(0, Value::None)?;
     items.reverse();
     assert!(rt; items.remove(1).is_identical(&Value::None));
