@@ -1,5 +1,5 @@
 -- Lowered functions are well formed, and their labels stand.
-use Rattle.std.proofs.Common.{ℕ, ◌+◌, ◌^◌, ◌<◌, ◌≤◌, List, [], ◌∷◌, length, sym, subst, arith}
+use Rattle.std.proofs.Common.{ℕ, ◌+◌, ◌^◌, ◌<◌, ◌≤◌, List, [], ◌∷◌, ◌++◌, length, sym, subst, arith}
 use Rattle.std.specs.List.{AllByRecursion}
 use Rattle.node_tree.specs.declared.script.NodeCode.{NodeCode}
 use Rattle.flow_code.specs.declared.function.FlatFunction.{FlatFunction}
@@ -45,6 +45,10 @@ yields_few (Do x ∷ lines) = let h = yields_few lines in let one = at_most_one 
     at_most_one : (x : Statement) → statement_yields x ≤ 1
     at_most_one (flat.Yield to at a fail) = omega arith
     at_most_one other = omega arith
+
+pub all_more : {A : Type 0} (P : A → Type 0) (items : List A) (item : A) → AllByRecursion P items → P item → AllByRecursion P (items ++ item ∷ [])
+all_more P [] item p q = (q, tt)
+all_more P (a ∷ items) item p q = (p.0, all_more P items item p.1 q)
 
 -- labels and lines that both fit in memory leave room for pauses
 pub has_room : (labels : ℕ) (lines : List Line) → labels < 2 ^ 63 → length lines < 2 ^ 63 → labels + yields lines + 1 < 2 ^ 64

@@ -992,7 +992,7 @@ module _ (rules : Rules) (script : FlatScript) (plan : FlatFunction → Plan) (L
 
     pends_match : (l e : ℕ) → Agrees f (find l f.body) j.spot.registers j.spot.frame → (x : Option Object) → Match (machine.pending_exception m (one j) l e x) (c.pends (other j) (goal_in 0 (body f) l) e x)
     pends_match l e agrees None = λ d. absurd d
-    pends_match l e agrees (Some (object.Exception class args entries fields)) = jumps_match l (Some e) agrees
+    pends_match l e agrees (Some (object.Exception class args entries fields cause)) = jumps_match l (Some e) agrees
     pends_match l e agrees (Some other) = λ d. absurd d
 
     again_match : (l : ℕ) → Agrees f (find l f.body) j.spot.registers j.spot.frame → (v : Value) → Match (machine.again m (one j) l v) (c.again (other j) (goal_in 0 (body f) l) (Some v))

@@ -222,12 +222,15 @@ module _ (p : Plan) (f : FlatFunction) (small : IsSmall p f) (formed : WellForme
   low_labels : Low f.labels f.body
   low_labels = low f.labels f.body formed.numbered
 
+  once_left : Once (labels_of (body_lines p f))
+  once_left = once_lines (base_of f) p.saved 0 f.body formed.once (low_more f.labels (base_of f) f.body (omega arith) low_labels)
+
   once_body : (b : Bool) → Once (labels_of (body_of_kind b p f))
   once_body true = (
     ap (λ ls. has ls f.labels) (labels_clears p.cleared (body_lines p f)) ∙ not_among (base_of f) p.saved 0 f.labels f.body (none_low f.labels f.labels f.body low_labels (omega arith)) (omega arith),
-    subst Once (sym (labels_clears p.cleared (body_lines p f))) (once_body false),
+    subst Once (sym (labels_clears p.cleared (body_lines p f))) once_left,
   )
-  once_body false = once_lines (base_of f) p.saved 0 f.body formed.once (low_more f.labels (base_of f) f.body (omega arith) low_labels)
+  once_body false = once_left
 
   function_is : IsHeading (header f) → IsFunction (function_of p f)
   function_is heading = record { header = header_is (header f) heading fit.heading; slots = small.slots; registers = fit.registers; each = body_is f.generator; once = once_body f.generator }

@@ -21,24 +21,24 @@ use Rattle.nu_rows.specs.Rows.{End, Next, Leave, Raised, Return, Stopped, Undefi
 use Rattle.op_forms.specs.Answers.{Answer}
 use Rattle.op_forms.specs.Rules.{Rules}
 use Rattle.nu_calls.specs.Surroundings.{Scene, with_world, with_heap, with_input, with_frames}
-use Rattle.nu_calls.specs.Exceptions.{Thrown, number_of, exception_made, with_entry, is_kind}
+use Rattle.nu_calls.specs.Exceptions.{Thrown, class_number, exception_made, with_entry, is_kind}
 use Rattle.nu_calls.specs.Lines.{NextLine, ALine, NoLine, BadLine, line_of}
 
 -- the classes that are spoken of here
 abbrev pub generator_exit : ℕ
-generator_exit = number_of native.GeneratorExit
+generator_exit = class_number native.GeneratorExit
 
 abbrev pub runtime_error : ℕ
-runtime_error = number_of native.RuntimeError
+runtime_error = class_number native.RuntimeError
 
 abbrev pub stop_iteration : ℕ
-stop_iteration = number_of native.StopIteration
+stop_iteration = class_number native.StopIteration
 
 abbrev pub type_error : ℕ
-type_error = number_of native.TypeError
+type_error = class_number native.TypeError
 
 abbrev pub value_error : ℕ
-value_error = number_of native.ValueError
+value_error = class_number native.ValueError
 
 -- how an operation ends for its code: with a value, an exception or a stop, or nothing is said
 pub data Result : Type 0 where

@@ -1,11 +1,12 @@
 -- Exceptions: how they are made, their entries and classes (reference, section 8.4; library reference, exceptions).
-use Rattle.std.specs.Prelude.{ℕ, zero, suc, List, [], ◌∷◌, ◌++◌, Option, Some, None, Bool, true, false, ◌||◌, if◌then◌else◌, nat_eq, length, slice_get, slice_set}
+use Rattle.std.specs.Prelude.{ℕ, zero, suc, List, [], ◌∷◌, ◌++◌, Option, Some, None, Bool, true, false, if◌then◌else◌, length, slice_get, slice_set}
 use Rattle.std.specs.Str.{bytes_eq}
 use Rattle.nu_value.specs.declared.entries.Entry.{Entry}
 use Rattle.nu_value.specs.declared.natives.Native.{Native}
 use Rattle.nu_value.specs.declared.object.Object.{Object}
 use Rattle.nu_value.specs.declared.object.Object.TheVariants as object
 use Rattle.nu_value.specs.declared.value.Value.{Value}
+use Rattle.nu_value.specs.Classes.{is_under}
 use Rattle.nu_value.specs.Natives.{name_of, natives}
 
 -- the number of a class that no script makes is its place among them
@@ -13,8 +14,8 @@ abbrev pub place_among : List ℕ → List Native → ℕ
 place_among name [] = 0
 place_among name (n ∷ ns) = if bytes_eq (name_of n) name then 0 else suc (place_among name ns)
 
-abbrev pub number_of : Native → ℕ
-number_of n = place_among (name_of n) natives
+abbrev pub class_number : Native → ℕ
+class_number n = place_among (name_of n) natives
 
 -- an exception, and the objects with it
 pub record Thrown : Type 0 where
@@ -43,23 +44,13 @@ abbrev pub with_entry : Bool → ℕ → List ℕ → ℕ → List Object → Li
 with_entry true line scope n h = h
 with_entry false line scope n h = put_back h n (entered (record { line = line; scope = scope }) (slice_get h n))
 
-abbrev pub base_of : Option Object → Option ℕ
-base_of (Some (object.Class name base own native)) = base
-base_of other = None
-
--- the class, or a class that it stands under within so many steps, is the one of this number
-abbrev pub is_under : ℕ → List Object → Option ℕ → ℕ → Bool
-is_under zero h c base = false
-is_under (suc n) h None base = false
-is_under (suc n) h (Some c) base = nat_eq c base || is_under n h (base_of (slice_get h c)) base
-
 abbrev pub class_of : Option Object → Option ℕ
 class_of (Some (object.Exception class args entries fields cause)) = Some class
 class_of other = None
 
 -- the exception of this number is one of a class, or of one under it
 abbrev pub is_kind : List Object → ℕ → ℕ → Bool
-is_kind h e class = is_under (suc (length h)) h (class_of (slice_get h e)) class
+is_kind h e class = is_under h (class_of (slice_get h e)) class
 
 abbrev pub entries_of : Option Object → List Entry
 entries_of (Some (object.Exception class args entries fields cause)) = entries

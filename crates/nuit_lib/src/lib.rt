@@ -8,20 +8,12 @@
 mod building;
 mod call;
 mod compiling;
-#[cfg(test)]
-mod examples;
 mod laws;
 mod reading;
 mod refusal;
 mod running;
-#[cfg(test)]
-mod runs;
 mod saying;
 mod status;
-#[cfg(test)]
-mod table;
-#[cfg(test)]
-mod tests;
 mod words;
 
 pub use call::nuit;

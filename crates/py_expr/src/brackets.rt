@@ -6,12 +6,13 @@ ghost use Rattle.py_grammar.specs.Parse.{Reads};
 ghost use Rattle.py_grammar.specs.Levels as level;
 ghost use Rattle.py_expr.specs.Nests.{Nests};
 
-use crate::cursor::Cursor;
 use crate::grammar::Grammar;
-use crate::nodes::{only, opened, opened_argument, opened_bound, opened_entry, opened_item, tall};
-use crate::order::arguments_in_order;
-use crate::role::{EXPRESSION, begins_argument, begins_entry, begins_item, can_begin};
+use crate::nodes::tall;
 use py_ast::{Argument, Entry, Expr, Item, Sign, Subscript, Word};
+use py_cursor::{
+    Cursor, EXPRESSION, arguments_in_order, begins_argument, begins_entry, begins_item, can_begin,
+    maybe_opened, only, opened, opened_argument, opened_entry, opened_item,
+};
 use py_grammar::{Bracket, Found, Mark, ParseEnd, Row};
 use sqlite_items::{Boxed, Items};
 use std::alloc::Global;
@@ -394,9 +395,9 @@ impl<
         let upper = self.bound(tokens, depth)?;
         let by = self.step(tokens, depth)?;
         let height = lower.height.max(upper.height.max(by.height));
-        let lower = opened_bound(lower.tree);
-        let upper = opened_bound(upper.tree);
-        let by = opened_bound(by.tree);
+        let lower = maybe_opened(lower.tree);
+        let upper = maybe_opened(upper.tree);
+        let by = maybe_opened(by.tree);
         Ok(Found {
             tree: Boxed::new(self.alloc, Subscript::Slice(lower, upper, by))?,
             height,

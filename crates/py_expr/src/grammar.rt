@@ -6,8 +6,8 @@ ghost use Rattle.py_grammar.specs.Parse as spec;
 ghost use Rattle.py_grammar.specs.Parse.{Reads};
 ghost use Rattle.py_expr.specs.Nests.{Nests};
 
-use crate::cursor::Cursor;
 use py_ast::Expr;
+use py_cursor::Cursor;
 use py_grammar::{Found, ParseEnd};
 use sqlite_items::Boxed;
 use std::alloc::Global;

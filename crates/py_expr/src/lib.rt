@@ -5,20 +5,16 @@
 #![tactic(auto)]
 
 mod brackets;
-mod cursor;
 mod grammar;
 mod lists;
 mod nodes;
 mod operations;
-mod order;
 mod parts;
 mod productions;
-mod role;
 
-pub use cursor::Cursor;
+pub use py_cursor::{Cursor, EXPRESSION, MAX_DEPTH, begins_item, can_begin};
 pub use productions::{
     expression, expression_to, exprs, exprs_to, params, params_to, row_to, target, target_to,
     targets, targets_to, yield_to,
 };
 pub use py_grammar::{Found, Mark, ParseEnd};
-pub use role::{EXPRESSION, MAX_DEPTH, begins_item, can_begin};

@@ -1,14 +1,14 @@
-//! Nodes of the tree, and lists of parts.
+//! Nodes of the tree.
 
 ghost use Rattle.std.specs.Prelude.{◌≡◌, IfOk};
 ghost use Rattle.py_grammar.specs.Grammar as spec;
 ghost use Rattle.py_grammar.specs.Parse as parse;
 ghost use Rattle.py_grammar.specs.Parse.{Reads};
 
-use crate::cursor::Cursor;
-use py_ast::{Argument, Clause, Entry, Expr, Item};
+use py_ast::{Expr, Item};
+use py_cursor::Cursor;
 use py_grammar::{Found, Operator, ParseEnd};
-use sqlite_items::{Boxed, Items};
+use sqlite_items::Boxed;
 use std::alloc::{AllocError, Global};
 
 /// An operator between its operands.
@@ -31,98 +31,6 @@ pub fn alone(alloc: Global, item: Item<Boxed<Expr>>) -> Result<Boxed<Expr>, Allo
     }
 }
 
-/// What was found, off the heap.
-pub fn opened<T: Drop>(found: Found<Boxed<T>>) -> Found<T>
-    ensures { result ≡ found }
-{
-    Found {
-        tree: found.tree.into_inner(),
-        height: found.height,
-    }
-}
-
-pub fn opened_item(found: Found<Item<Boxed<Expr>>>) -> Found<Item<Expr>>
-    ensures { result ≡ found }
-{
-    let Found { tree, height } = found;
-    match tree {
-        Item::One(x) => Found {
-            tree: Item::One(x.into_inner()),
-            height,
-        },
-        Item::Star(line, x) => Found {
-            tree: Item::Star(line, x.into_inner()),
-            height,
-        },
-    }
-}
-
-pub fn opened_argument(found: Found<Argument<Boxed<Expr>>>) -> Found<Argument<Expr>>
-    ensures { result ≡ found }
-{
-    let Found { tree, height } = found;
-    match tree {
-        Argument::Plain(x) => Found {
-            tree: Argument::Plain(x.into_inner()),
-            height,
-        },
-        Argument::Star(x) => Found {
-            tree: Argument::Star(x.into_inner()),
-            height,
-        },
-        Argument::Keyword(line, name, x) => Found {
-            tree: Argument::Keyword(line, name, x.into_inner()),
-            height,
-        },
-        Argument::Merge(x) => Found {
-            tree: Argument::Merge(x.into_inner()),
-            height,
-        },
-    }
-}
-
-pub fn opened_entry(found: Found<Entry<Boxed<Expr>>>) -> Found<Entry<Expr>>
-    ensures { result ≡ found }
-{
-    let Found { tree, height } = found;
-    match tree {
-        Entry::Pair(key, value) => Found {
-            tree: Entry::Pair(key.into_inner(), value.into_inner()),
-            height,
-        },
-        Entry::Merge(x) => Found {
-            tree: Entry::Merge(x.into_inner()),
-            height,
-        },
-    }
-}
-
-pub fn opened_clause(found: Found<Clause<Boxed<Expr>>>) -> Found<Clause<Expr>>
-    ensures { result ≡ found }
-{
-    let Found { tree, height } = found;
-    match tree {
-        Clause::For(line, target, x) => Found {
-            tree: Clause::For(line, target.into_inner(), x.into_inner()),
-            height,
-        },
-        Clause::If(line, x) => Found {
-            tree: Clause::If(line, x.into_inner()),
-            height,
-        },
-    }
-}
-
-/// A bound of a slice, off the heap.
-pub fn opened_bound(bound: Option<Boxed<Expr>>) -> Option<Expr>
-    ensures { result ≡ bound }
-{
-    match bound {
-        Some(x) => Some(x.into_inner()),
-        None => None,
-    }
-}
-
 /// A node over parts of this height, if it is no deeper than is allowed.
 #[tactic(auto, unfolding(py_grammar::specs::Parse::tall))]
 pub fn tall(
@@ -142,32 +50,5 @@ pub fn tall(
     Ok(Found {
         tree,
         height: height + 1,
-    })
-}
-
-/// A list with this part alone.
-pub fn only<T: Drop>(alloc: Global, part: Found<T>) -> Result<Found<Items<T>>, AllocError>
-    ensures { IfOk result (λ list. list ≡ parse.only part) }
-{
-    let mut tree = Items::new(alloc);
-    tree.push(part.tree)?;
-    Ok(Found {
-        tree,
-        height: part.height,
-    })
-}
-
-/// The list with a part more.
-pub fn with_part<T: Drop>(
-    list: Found<Items<T>>,
-    part: Found<T>,
-) -> Result<Found<Items<T>>, AllocError>
-    ensures { IfOk result (λ longer. longer ≡ parse.with_part list part) }
-{
-    let Found { mut tree, height } = list;
-    tree.push(part.tree)?;
-    Ok(Found {
-        tree,
-        height: height.max(part.height),
     })
 }

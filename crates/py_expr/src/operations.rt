@@ -5,11 +5,12 @@ ghost use Rattle.py_grammar.specs.Parse as spec;
 ghost use Rattle.py_grammar.specs.Parse.{Reads};
 ghost use Rattle.py_expr.specs.Nests.{Nests};
 
-use crate::cursor::Cursor;
 use crate::grammar::Grammar;
-use crate::nodes::{combined, only, tall};
-use crate::role::{DISJUNCTION, EXPRESSION, NEGATION, SIGNED, level_of, makes, role_of};
+use crate::nodes::{combined, tall};
 use py_ast::{Binary, Expr, Sign, Unary, Word};
+use py_cursor::{
+    Cursor, DISJUNCTION, EXPRESSION, NEGATION, SIGNED, level_of, makes, only, role_of,
+};
 use py_grammar::{Bracket, Found, Mark, ParseEnd, Role};
 use sqlite_items::Boxed;
 use std::alloc::Global;

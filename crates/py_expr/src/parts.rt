@@ -1,69 +1,16 @@
-//! Parts of lists, and comparisons.
+//! Parts of lists.
 
 ghost use Rattle.std.specs.Prelude.{◌≡◌, ◌≤◌, length};
 ghost use Rattle.py_grammar.specs.Parse as spec;
 ghost use Rattle.py_grammar.specs.Parse.{Reads};
 ghost use Rattle.py_expr.specs.Nests.{Nests};
 
-use crate::cursor::Cursor;
 use crate::grammar::Grammar;
-use crate::role::{BITOR, EXPRESSION, plain_level, star_level};
-use py_ast::{Argument, Comparison, Entry, Expr, Item, Link, Param, Sign, Word};
+use py_ast::{Argument, Entry, Expr, Item, Link, Param, Sign};
+use py_cursor::{BITOR, Cursor, EXPRESSION, comparator, plain_level, star_level};
 use py_grammar::{Found, Mark, ParseEnd, Row};
 use sqlite_items::Boxed;
 use std::alloc::Global;
-
-/// The words or signs of a comparison (reference, section 6.10).
-#[tactic(auto, unfolding(py_grammar::specs::Parse::comparator))]
-fn comparator(tokens: &mut Cursor<'_>) -> Result<Comparison, ParseEnd>
-    ensures { Reads (spec.comparator tokens.old) result tokens.new }
-{
-    match tokens.mark() {
-        Mark::Sign(Sign::Less) => {
-            tokens.take();
-            Ok(Comparison::Less)
-        }
-        Mark::Sign(Sign::Greater) => {
-            tokens.take();
-            Ok(Comparison::Greater)
-        }
-        Mark::Sign(Sign::LessEqual) => {
-            tokens.take();
-            Ok(Comparison::LessEqual)
-        }
-        Mark::Sign(Sign::GreaterEqual) => {
-            tokens.take();
-            Ok(Comparison::GreaterEqual)
-        }
-        Mark::Sign(Sign::EqualEqual) => {
-            tokens.take();
-            Ok(Comparison::Equal)
-        }
-        Mark::Sign(Sign::NotEqual) => {
-            tokens.take();
-            Ok(Comparison::NotEqual)
-        }
-        Mark::Keyword(Word::In) => {
-            tokens.take();
-            Ok(Comparison::In)
-        }
-        Mark::Keyword(Word::Is) => {
-            tokens.take();
-            if tokens.sees_word(Word::Not) {
-                tokens.take();
-                Ok(Comparison::IsNot)
-            } else {
-                Ok(Comparison::Is)
-            }
-        }
-        Mark::Keyword(Word::Not) => {
-            tokens.take();
-            tokens.expect_word(Word::In)?;
-            Ok(Comparison::NotIn)
-        }
-        _ => Err(tokens.refuse()),
-    }
-}
 
 impl<
     F: Fn(Global, &mut Cursor<'_>, usize, u32, u32) -> Result<Found<Boxed<Expr>>, ParseEnd>,

@@ -6,16 +6,15 @@ ghost use Rattle.py_grammar.specs.Grammar.{Expression, Exprs, Targets, Target, S
 ghost use Rattle.py_grammar.specs.Parse as spec;
 ghost use Rattle.py_grammar.specs.Parse.{Reads};
 
-use crate::cursor::Cursor;
 use crate::grammar::{Grammar, parse};
-use crate::nodes::{alone, opened};
-use crate::role::{
-    EXPRESSION, MAX_DEPTH, follows_expression, follows_exprs, follows_params, follows_target,
-    follows_targets,
+use crate::nodes::alone;
+use py_ast::{Expr, Item, Params, Sign, Target, Token, Word};
+use py_cursor::{
+    Cursor, EXPRESSION, MAX_DEPTH, follows_expression, follows_exprs, follows_params,
+    follows_target, follows_targets,
 };
-use py_ast::{Expr, Item, Param, Params, Sign, Target, Token, Word};
 use py_grammar::{Found, ParseEnd, Row};
-use sqlite_items::Items;
+use sqlite_items::Boxed;
 use std::alloc::Global;
 
 /// An expression that is no deeper than `depth`.
@@ -24,27 +23,30 @@ pub fn expression_to(
     alloc: Global,
     tokens: &mut Cursor<'_>,
     depth: u32,
-) -> Result<Found<Expr>, ParseEnd>
+) -> Result<Found<Boxed<Expr>>, ParseEnd>
     ensures { Reads (spec.read_level level.expression depth tokens.old) result tokens.new }
 {
     let fuel = tokens.rest().len() + 1;
-    Ok(opened(parse(alloc, tokens, fuel, EXPRESSION, depth)?))
+    parse(alloc, tokens, fuel, EXPRESSION, depth)
 }
 
 /// A list of expressions, or one by itself, no deeper than `depth`.
 #[tactic(auto, unfolding(py_grammar::specs::Parse::read_exprs))]
-pub fn exprs_to(alloc: Global, tokens: &mut Cursor<'_>, depth: u32) -> Result<Found<Expr>, ParseEnd>
+pub fn exprs_to(
+    alloc: Global,
+    tokens: &mut Cursor<'_>,
+    depth: u32,
+) -> Result<Found<Boxed<Expr>>, ParseEnd>
     ensures { Reads (spec.read_exprs depth tokens.old) result tokens.new }
 {
     let fuel = tokens.rest().len() + 1;
     let line = tokens.line();
-    let row = Grammar {
+    Grammar {
         alloc,
         fuel,
         again: parse,
     }
-    .row_of(tokens, line, Row::Expressions, depth)?;
-    Ok(opened(row))
+    .row_of(tokens, line, Row::Expressions, depth)
 }
 
 /// A list of expressions, or one by itself, no deeper than `depth`, and whether it is an expression by itself, with neither a
@@ -54,7 +56,7 @@ pub fn row_to(
     alloc: Global,
     tokens: &mut Cursor<'_>,
     depth: u32,
-) -> Result<(Found<Expr>, bool), ParseEnd>
+) -> Result<(Found<Boxed<Expr>>, bool), ParseEnd>
     ensures { Reads (spec.read_row depth tokens.old) result tokens.new }
 {
     let fuel = tokens.rest().len() + 1;
@@ -70,7 +72,7 @@ pub fn row_to(
         Item::Star(_, _) => false,
     };
     let row = grammar.row_behind(tokens, line, Row::Expressions, depth, first)?;
-    Ok((opened(row), is_alone))
+    Ok((row, is_alone))
 }
 
 /// A list of targets, or one by itself, no deeper than `depth`.
@@ -79,18 +81,17 @@ pub fn targets_to(
     alloc: Global,
     tokens: &mut Cursor<'_>,
     depth: u32,
-) -> Result<Found<Target>, ParseEnd>
+) -> Result<Found<Boxed<Target>>, ParseEnd>
     ensures { Reads (spec.read_targets depth tokens.old) result tokens.new }
 {
     let fuel = tokens.rest().len() + 1;
     let line = tokens.line();
-    let row = Grammar {
+    Grammar {
         alloc,
         fuel,
         again: parse,
     }
-    .row_of(tokens, line, Row::Targets, depth)?;
-    Ok(opened(row))
+    .row_of(tokens, line, Row::Targets, depth)
 }
 
 /// A target that is no deeper than `depth`.
@@ -99,7 +100,7 @@ pub fn target_to(
     alloc: Global,
     tokens: &mut Cursor<'_>,
     depth: u32,
-) -> Result<Found<Target>, ParseEnd>
+) -> Result<Found<Boxed<Target>>, ParseEnd>
     ensures { Reads (spec.read_target depth tokens.old) result tokens.new }
 {
     let fuel = tokens.rest().len() + 1;
@@ -110,27 +111,30 @@ pub fn target_to(
     }
     .item(tokens, Row::Targets, depth)?;
     Ok(Found {
-        tree: alone(alloc, item.tree)?.into_inner(),
+        tree: alone(alloc, item.tree)?,
         height: item.height,
     })
 }
 
 /// A yield expression without brackets, no deeper than `depth`.
 #[tactic(auto, unfolding(py_grammar::specs::Parse::read_yield))]
-pub fn yield_to(alloc: Global, tokens: &mut Cursor<'_>, depth: u32) -> Result<Found<Expr>, ParseEnd>
+pub fn yield_to(
+    alloc: Global,
+    tokens: &mut Cursor<'_>,
+    depth: u32,
+) -> Result<Found<Boxed<Expr>>, ParseEnd>
     ensures { Reads (spec.read_yield depth tokens.old) result tokens.new }
 {
     if !tokens.sees_word(Word::Yield) {
         return Err(tokens.refuse());
     }
     let fuel = tokens.rest().len() + 1;
-    let found = Grammar {
+    Grammar {
         alloc,
         fuel,
         again: parse,
     }
-    .yields(tokens, depth)?;
-    Ok(opened(found))
+    .yields(tokens, depth)
 }
 
 /// Parameters, or none, no deeper than `depth`.
@@ -165,9 +169,8 @@ pub fn expression(alloc: Global, tokens: &[Token], at: usize) -> Result<(Expr, u
     match expression_to(alloc, &mut cursor, MAX_DEPTH) {
         Ok(found) => {
             if follows_expression(cursor.mark()) {
-                Ok((found.tree, tokens.len() - cursor.len()))
+                Ok((found.tree.into_inner(), tokens.len() - cursor.len()))
             } else {
-                drop(found);
                 Err(cursor.refuse())
             }
         }
@@ -189,9 +192,8 @@ pub fn exprs(alloc: Global, tokens: &[Token], at: usize) -> Result<(Expr, usize)
     match exprs_to(alloc, &mut cursor, MAX_DEPTH) {
         Ok(found) => {
             if follows_exprs(cursor.mark()) {
-                Ok((found.tree, tokens.len() - cursor.len()))
+                Ok((found.tree.into_inner(), tokens.len() - cursor.len()))
             } else {
-                drop(found);
                 Err(cursor.refuse())
             }
         }
@@ -212,9 +214,8 @@ pub fn targets(alloc: Global, tokens: &[Token], at: usize) -> Result<(Target, us
     match targets_to(alloc, &mut cursor, MAX_DEPTH) {
         Ok(found) => {
             if follows_targets(cursor.mark()) {
-                Ok((found.tree, tokens.len() - cursor.len()))
+                Ok((found.tree.into_inner(), tokens.len() - cursor.len()))
             } else {
-                drop(found);
                 Err(cursor.refuse())
             }
         }
@@ -235,9 +236,8 @@ pub fn target(alloc: Global, tokens: &[Token], at: usize) -> Result<(Target, usi
     match target_to(alloc, &mut cursor, MAX_DEPTH) {
         Ok(found) => {
             if follows_target(cursor.mark()) {
-                Ok((found.tree, tokens.len() - cursor.len()))
+                Ok((found.tree.into_inner(), tokens.len() - cursor.len()))
             } else {
-                drop(found);
                 Err(cursor.refuse())
             }
         }

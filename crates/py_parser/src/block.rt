@@ -6,12 +6,10 @@ ghost use Rattle.py_statements.specs.Parse as spec;
 ghost use Rattle.py_parser.specs.Nests.{Nests};
 
 use crate::compound::Blocks;
-use crate::nodes::{dedent, indent, newline, nothing, with_part};
-use crate::simple::line;
-use crate::words::{begins_compound, closes, is_newline};
 use py_ast::{Sign, Stmt};
-use py_expr::Cursor;
+use py_cursor::{Cursor, with_part};
 use py_grammar::{Found, ParseEnd};
+use py_simple::{begins_compound, closes, dedent, indent, is_newline, line, newline, nothing};
 use sqlite_items::Items;
 use std::alloc::Global;
 

@@ -6,12 +6,11 @@ ghost use Rattle.py_grammar.specs.Parse.{Reads};
 ghost use Rattle.py_statements.specs.Parse as spec;
 ghost use Rattle.py_parser.specs.Nests.{Nests};
 
-use crate::names::as_name;
-use crate::nodes::{both, boxed, made, nothing, only, with_part};
-use crate::parts::{base_class, decorators, managers};
 use py_ast::{Branch, Expr, Handler, Sign, Stmt, Target, Word};
-use py_expr::{Cursor, expression_to, exprs_to, params_to, targets_to};
+use py_cursor::{Cursor, maybe_opened, only, with_part};
+use py_expr::{expression_to, exprs_to, params_to, targets_to};
 use py_grammar::{Found, Mark, ParseEnd};
+use py_simple::{as_name, base_class, decorators, made, managers, nothing};
 use sqlite_items::{Boxed, Items};
 use std::alloc::Global;
 
@@ -41,12 +40,11 @@ impl<F: Fn(Global, &mut Cursor<'_>, usize, u32) -> Result<Found<Items<Stmt>>, Pa
     {
         let line = tokens.take();
         let x = expression_to(self.alloc, tokens, depth)?;
-        let body = self.again(tokens, depth);
-        let (x, body) = both(x, body)?;
+        let body = self.again(tokens, depth)?;
         Ok(Found {
             tree: Branch {
                 line,
-                test: x.tree,
+                test: x.tree.into_inner(),
                 body: body.tree,
             },
             height: x.height.max(body.height),
@@ -115,23 +113,18 @@ impl<F: Fn(Global, &mut Cursor<'_>, usize, u32) -> Result<Found<Items<Stmt>>, Pa
     }
 
     /// Reference, section 8.2.
-    #[tactic(auto, unfolding(py_statements::specs::Parse::while_statement))]
+    #[tactic(auto, unfolding(py_statements::specs::Parse::while_statement, py_statements::specs::Parse::branch))]
     fn while_statement(&self, tokens: &mut Cursor<'_>, depth: u32) -> Result<Found<Stmt>, ParseEnd>
         requires { Nests self.now.fuel (F.pre self.now.again) (F.post self.now.again) }
         ensures { Reads (spec.while_statement (spec.parse self.now.fuel) depth tokens.old) result tokens.new }
     {
-        let first = self.branch(tokens, depth.saturating_sub(1))?;
-        let other = self.worded(tokens, Word::Else, depth.saturating_sub(1));
-        let (first, other) = both(first, other)?;
-        let height = first.height.max(other.height);
-        let Branch { line, test, body } = first.tree;
-        made(
-            tokens,
-            line,
-            depth,
-            height,
-            Stmt::While(line, test, body, other.tree),
-        )
+        let line = tokens.take();
+        let x = expression_to(self.alloc, tokens, depth.saturating_sub(1))?;
+        let body = self.again(tokens, depth.saturating_sub(1))?;
+        let other = self.worded(tokens, Word::Else, depth.saturating_sub(1))?;
+        let height = x.height.max(body.height).max(other.height);
+        let tree = Stmt::While(line, x.tree.into_inner(), body.tree, other.tree);
+        made(tokens, line, depth, height, tree)
     }
 
     /// The blocks of a `for` statement, behind its targets and what they go over. Both are on the heap, so that a frame of the
@@ -168,10 +161,8 @@ impl<F: Fn(Global, &mut Cursor<'_>, usize, u32) -> Result<Found<Items<Stmt>>, Pa
     {
         let line = tokens.take();
         let target = targets_to(self.alloc, tokens, depth.saturating_sub(1))?;
-        let target = boxed(self.alloc, target)?;
         tokens.expect_word(Word::In)?;
         let x = exprs_to(self.alloc, tokens, depth.saturating_sub(1))?;
-        let x = boxed(self.alloc, x)?;
         self.for_blocks(tokens, line, depth, target, x)
     }
 
@@ -210,14 +201,12 @@ impl<F: Fn(Global, &mut Cursor<'_>, usize, u32) -> Result<Found<Items<Stmt>>, Pa
         ensures { Reads (spec.class_handler (spec.parse self.now.fuel) line depth tokens.old) result tokens.new }
     {
         let x = expression_to(self.alloc, tokens, depth)?;
-        let name = as_name(tokens);
-        let head = both(x, name)?;
-        let body = self.again(tokens, depth);
-        let ((x, name), body) = both(head, body)?;
+        let name = as_name(tokens)?;
+        let body = self.again(tokens, depth)?;
         Ok(Found {
             tree: Handler {
                 line,
-                class: Some(x.tree),
+                class: Some(x.tree.into_inner()),
                 name,
                 body: body.tree,
             },
@@ -372,10 +361,10 @@ impl<F: Fn(Global, &mut Cursor<'_>, usize, u32) -> Result<Found<Items<Stmt>>, Pa
         let line = tokens.take();
         let name = tokens.name()?;
         let base = base_class(self.alloc, tokens, depth.saturating_sub(1))?;
-        let body = self.again(tokens, depth.saturating_sub(1));
-        let (base, body) = both(base, body)?;
+        let body = self.again(tokens, depth.saturating_sub(1))?;
         let height = decorators.height.max(base.height.max(body.height));
-        let tree = Stmt::Class(line, decorators.tree, name, base.tree, body.tree);
+        let base = maybe_opened(base.tree);
+        let tree = Stmt::Class(line, decorators.tree, name, base, body.tree);
         made(tokens, line, depth, height, tree)
     }
 

@@ -6,13 +6,7 @@
 
 mod block;
 mod compound;
-mod names;
-mod nesting;
-mod nodes;
 mod parser;
-mod parts;
-mod simple;
-mod words;
 
 pub use parser::parse;
 pub use py_grammar::ParseEnd;

@@ -6,11 +6,10 @@ ghost use Rattle.py_statements.specs.Parse as spec;
 ghost use Rattle.py_statements.specs.Script.{Answers};
 
 use crate::compound::Blocks;
-use crate::nesting::too_deep;
-use crate::nodes::nothing;
 use py_ast::{Script, Stmt, Token};
-use py_expr::{Cursor, MAX_DEPTH};
+use py_cursor::{Cursor, MAX_DEPTH};
 use py_grammar::{Found, ParseEnd};
+use py_simple::{nothing, too_deep};
 use sqlite_items::Items;
 use std::alloc::Global;
 

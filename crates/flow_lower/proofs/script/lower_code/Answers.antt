@@ -1,4 +1,6 @@
-use Rattle.std.proofs.Common.{length, refl, sym, ap, ◌∙◌, arith}
+use Rattle.std.proofs.Common.{◌+◌, ◌^◌, ◌<◌, length, vec_len, refl, sym, ap, subst, ◌∙◌, arith}
+use Rattle.flow_code.specs.Contents.{yields}
+use Rattle.flow_lower.proofs.WellFormed.{has_room}
 use Rattle.node_tree.specs.Tree.{block}
 use Rattle.flow_code.specs.declared.statement.Statement.TheVariants as flat
 use Rattle.flow_code.specs.Registers.{registers, above}
@@ -22,4 +24,9 @@ returns-clause-lowers c = record {
 }
 
 pub returns-clause-room : goal.returns-clause-room
-returns-clause-room c = ?
+returns-clause-room c =
+    let out = c.put_fail.new.out in
+    let drawn = c.lower_nodes.new.labels in
+    let few : vec_len drawn < 2 ^ 63 = omega (arith, drawn.ok, drawn.small) in
+    let short : length out.items < 2 ^ 63 = omega (arith, out.ok, out.small) in
+    subst (λ ls. c.len-2.result + yields ls + 1 < 2 ^ 64) (sym c.from_vec.ensures) (has_room c.len-2.result out.items (omega (arith, c.len-2.ensures, few)) short)
