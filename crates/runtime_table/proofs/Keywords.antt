@@ -1,6 +1,6 @@
 -- The keys of a dict, place by place.
-use Rattle.std.proofs.Common.{◌≡◌, ℕ, zero, suc, ◌+◌, List, [], ◌∷◌, Option, Some, None, Bool, true, false, refl, sym, drop, add-one}
-use Rattle.std.specs.Prelude.{slice_get, ◌&&◌}
+use Rattle.std.proofs.Common.{◌≡◌, ℕ, zero, suc, ◌+◌, [], ◌∷◌, true, false, refl, sym, drop, add-one}
+use Rattle.std.specs.Prelude.{slice_get}
 use Rattle.nu_value.specs.Pairs.{PairList}
 use Rattle.op_forms.specs.Fits.{are_texts}
 use Rattle.runtime_table.specs.Keywords.{text_at}

@@ -93,7 +93,11 @@ fn bind(object: &mut Object, name: RcStr, value: Value) -> Result<(), AllocError
         Object::Space(names) => names.set(name, value),
         Object::Instance { fields, .. } => fields.set(name, value),
         Object::Exception { fields, .. } => fields.set(name, value),
-        Object::Class { own, native: false, .. } => own.set(name, value),
+        Object::Class {
+            own,
+            native: false,
+            ..
+        } => own.set(name, value),
         _ => Ok(()),
     }
 }
@@ -129,7 +133,11 @@ fn unbind(object: &mut Object, name: &str)
         Object::Exception { fields, .. } => {
             let _ = fields.remove(name);
         }
-        Object::Class { own, native: false, .. } => {
+        Object::Class {
+            own,
+            native: false,
+            ..
+        } => {
             let _ = own.remove(name);
         }
         _ => {}

@@ -87,6 +87,14 @@ pub fn apply(alloc: Global, op: Op, world: &mut World, args: &[Value]) -> Result
     ensures names { Sound world.old → IfOk result (λ e. EndIn world.new.heap e) }
 {
     rows_keep_sound();
+    table_row(alloc, op, world, args)
+}
+
+// The row of the table.
+fn table_row(alloc: Global, op: Op, world: &mut World, args: &[Value]) -> Result<OpEnd, AllocError>
+    ensures end { IfOk result (λ e. e ≡ (spec.row op world.old args.now).end) }
+    ensures world { OnOk result (world.new ≡ after world.old (spec.row op world.old args.now)) }
+{
     let end = done(alloc, op, world, args)?;
     Ok(bound(world, end))
 }
@@ -262,10 +270,7 @@ fn done(alloc: Global, op: Op, world: &mut World, args: &[Value]) -> Result<OpEn
         | Op::FreeGet
         | Op::FreeDel => names_row(alloc, op, world, args),
         Op::Eq | Op::Ne | Op::Is | Op::IsNot | Op::Not | Op::Truth => comparing(
-            alloc,
-            op,
-            world,
-            args,
+            alloc, op, world, args,
         ),
         Op::Call => calling(alloc, world, args),
         Op::Add
