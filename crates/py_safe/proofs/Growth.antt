@@ -1,5 +1,5 @@
 -- What stays so as objects are made and changed, and worlds with an object more, or with one in place of another.
-use Rattle.std.proofs.Common.{◌≡◌, ℕ, zero, suc, ◌<◌, List, [], ◌∷◌, ◌++◌, Option, Some, None, Bool, true, false, refl, sym, ap, subst, ◌∙◌, arith, length, inl, inr}
+use Rattle.std.proofs.Common.{◌≡◌, ℕ, zero, suc, ◌<◌, List, [], ◌∷◌, ◌++◌, Option, Some, None, true, false, refl, sym, ap, subst, ◌∙◌, arith, length, inl, inr}
 use Rattle.std.specs.Prelude.{◌⊎◌, if◌then◌else◌, nat_eq, slice_get, slice_set}
 use Rattle.std.proofs.lemmas.Bool.Decides.{nat_tests}
 use Rattle.std.proofs.lemmas.Option.{slice_get_within}
@@ -11,7 +11,6 @@ use Rattle.op_forms.specs.declared.end.After.{After}
 use Rattle.op_forms.specs.declared.end.After.TheVariants as behind
 use Rattle.op_forms.specs.Fits.{is_in}
 use Rattle.op_forms.specs.Sound.{Sort, ATuple as TupleSort, AList as ListSort, ADict as DictSort, ARange as RangeSort, AFunction as FunctionSort, AClass as ClassSort, AGenerator as GeneratorSort, AView as ViewSort, ACell as CellSort, ASpace as SpaceSort, AnException, Another as OtherSort, sort_of, IsA, IsIn, AllIn, IsCell, AreCells, ObjectIn, SoundHeap}
-use Rattle.op_forms.specs.Parts.{OrUnset}
 use Rattle.op_forms.specs.Right.{Grows as HeapGrows}
 use Rattle.op_forms.proofs.Objects as objects
 use Rattle.nu_rows.specs.Rows.{How, Send, Throw}

@@ -1,5 +1,5 @@
 -- What uses only values that name no marked object keeps a lawful world lawful.
-use Rattle.std.proofs.Common.{◌≡◌, ℕ, zero, suc, ◌+◌, ◌<◌, ◌≤◌, List, [], ◌∷◌, ◌++◌, Option, Some, None, Bool, true, false, refl, sym, ap, subst, ◌∙◌, arith, length, inl, inr}
+use Rattle.std.proofs.Common.{◌≡◌, ℕ, zero, suc, ◌+◌, ◌≤◌, List, [], ◌∷◌, ◌++◌, Option, Some, None, Bool, true, false, refl, sym, ap, subst, ◌∙◌, arith, length, inl, inr}
 use Rattle.std.specs.Prelude.{◌⊎◌, ◌&&◌, slice_get, slice_set, nat_lt, if◌then◌else◌}
 use Rattle.std.proofs.lemmas.Bool.{cases_lt, cases_eq}
 use Rattle.std.proofs.lemmas.Option.{slice_get_within}
@@ -10,7 +10,6 @@ use Rattle.nu_value.specs.declared.object.Object.{Object}
 use Rattle.nu_value.specs.declared.object.Object.TheVariants as object
 use Rattle.nu_value.specs.declared.value.Value.{Value}
 use Rattle.nu_value.specs.declared.value.Value.TheVariants as value
-use Rattle.nu_value.specs.Names.{NameList}
 use Rattle.nu_value.specs.Pairs.{PairList, key_place, mapped_at, with_pair}
 use Rattle.nu_value.specs.View.{is_text}
 use Rattle.op_forms.specs.declared.end.After.{After}
@@ -23,15 +22,15 @@ use Rattle.op_forms.specs.declared.world.World.{World}
 use Rattle.op_forms.specs.Answers.{after}
 use Rattle.op_forms.specs.Doing.{Change, Fill, Bind, Unbind, Hold, Move, Finish, Put, Fit, Doing, changed_by, put_at, set_in, heap_after, answer}
 use Rattle.op_forms.specs.Fits.{are_keywords, are_texts}
-use Rattle.op_forms.specs.Parts.{AllOf, PartsOf}
-use Rattle.op_forms.specs.Right.{Grows as HeapGrows, Claim, IsPlainValue, Known, Closed, AfterOf, HowOf, EndOf, ChangeOf, KeepsTexts, SetOf, Takes as CodeTakes, Begins, NewOf, MadeOf, Uses, News}
-use Rattle.op_forms.specs.Sound.{AClass as ClassSort, AGenerator as GeneratorSort, AnException, sort_of, IsA, IsIn, AllIn, LinksIn, AfterIn, HowIn, EndIn, Sound}
+use Rattle.op_forms.specs.Parts.{PartsOf}
+use Rattle.op_forms.specs.Right.{Grows as HeapGrows, Claim, IsPlainValue, Known, Closed, AfterOf, HowOf, EndOf, ChangeOf, KeepsTexts, SetOf, Takes as CodeTakes, Begins, NewOf, Uses, News}
+use Rattle.op_forms.specs.Sound.{AClass as ClassSort, AGenerator as GeneratorSort, AnException, sort_of, LinksIn, AfterIn, HowIn, EndIn, Sound}
 use Rattle.op_forms.proofs.Grown.{set_cases, set_other, grown_length, grown_before, grown_either}
 use Rattle.op_forms.proofs.Keeping.{set_length, stays, grows, made_at, native_class}
 use Rattle.op_forms.proofs.Objects.{changed_parts}
 use Rattle.op_rules.proofs.Rows.{Asked}
-use Rattle.py_safe.specs.Heaps.{Mark, Open, Keywords, Block, View, view, Nature, AGenerator, nature_of, Grows, IsOpen, ObjectOpen, Takes, MarkedAs, NoBlock, BodyLaw, HeapLaw, KeepsGenerators}
-use Rattle.py_safe.specs.Rosters.{Role, OfFunction, OfClass, Roster}
+use Rattle.py_safe.specs.Heaps.{Mark, Open, Keywords, Block, view, AGenerator, nature_of, Grows, IsOpen, ObjectOpen, Takes, MarkedAs, BodyLaw, HeapLaw, KeepsGenerators}
+use Rattle.py_safe.specs.Rosters.{Role, OfFunction, Roster}
 use Rattle.py_safe.specs.Rules.{AfterLaw, HowLaw, EndLaw, Leaves, WorldLaw}
 use Rattle.py_safe.proofs.Growth.{set_same, all_there}
 use Rattle.py_safe.proofs.Worlds.{plain_open}

@@ -1,5 +1,5 @@
 -- The table of operations keeps law.
-use Rattle.std.proofs.Common.{◌≡◌, ℕ, zero, suc, ◌<◌, List, [], ◌∷◌, ◌++◌, Option, Some, None, Bool, true, false, refl, ap, subst, ◌∙◌, arith, length, inl, inr}
+use Rattle.std.proofs.Common.{◌≡◌, ℕ, zero, suc, ◌<◌, List, [], ◌∷◌, ◌++◌, Option, Some, None, Bool, true, false, refl, ap, subst, length, inl, inr}
 use Rattle.std.specs.Prelude.{ℤ, pos, not, ◌&&◌, if◌then◌else◌, int_lt, nat_lt, slice_get}
 use Rattle.std.specs.Ordering.{int_eq}
 use Rattle.nu_run.specs.declared.StopKind.TheVariants as stop
@@ -8,7 +8,6 @@ use Rattle.nu_value.specs.declared.object.Object.{Object}
 use Rattle.nu_value.specs.declared.object.Object.TheVariants as object
 use Rattle.nu_value.specs.declared.value.Value.{Value}
 use Rattle.nu_value.specs.declared.value.Value.TheVariants as value
-use Rattle.nu_value.specs.Names.{NameList}
 use Rattle.nu_value.specs.Natives.{native_classes}
 use Rattle.nu_value.specs.Same.{number_of, object_of}
 use Rattle.op_forms.specs.declared.end.After.{After}
@@ -26,8 +25,8 @@ use Rattle.op_forms.specs.Answers.{after}
 use Rattle.op_forms.specs.Doing.{Doing, nothing, heap_after, answer}
 use Rattle.op_forms.specs.Fits.{fits}
 use Rattle.op_forms.specs.Laws.{DoingsKeepSound}
-use Rattle.op_forms.specs.Parts.{AllOf, OrUnset}
-use Rattle.op_forms.specs.Right.{Claim, Closed, GivenBy, RestOf, PutOf, CallOf, Given, AfterOf, HowOf, EndOf, Uses, Right}
+use Rattle.op_forms.specs.Parts.{OrUnset}
+use Rattle.op_forms.specs.Right.{Claim, Closed, GivenBy, Given, AfterOf, HowOf, EndOf, Uses, Right}
 use Rattle.op_forms.specs.Signature.{arguments}
 use Rattle.op_forms.specs.Sound.{IsIn, AfterIn, HowIn, EndIn, Sound}
 use Rattle.op_forms.proofs.Objects.{parts_by}
@@ -43,7 +42,7 @@ use Rattle.op_rules.proofs.Keeping.{asking_sound, bound_sound}
 use Rattle.op_rules.proofs.Plain.{plain_right, call_plain}
 use Rattle.op_rules.proofs.Rows.{Asked, row_right, bound_right, finishing_right}
 use Rattle.py_safe.specs.Rosters.{Roster}
-use Rattle.py_safe.specs.Heaps.{Mark, Open, View, view, ACell, nature_of, Grows, IsOpen, AllOpen, BodyLaw, KeepsGenerators}
+use Rattle.py_safe.specs.Heaps.{Mark, Open, View, view, ACell, nature_of, IsOpen, AllOpen, BodyLaw, KeepsGenerators}
 use Rattle.py_safe.specs.Rules.{GivesTruth, TruthBehind, EndIsTruth, gives_nature, EndIsOf, EndIsThis, AfterLaw, IsAtOnce, Leaves, Handed, WorldLaw, KeepsLaw}
 use Rattle.py_safe.proofs.Growth.{get_end, grows_trans, is_in_true}
 use Rattle.py_table.proofs.Lawful.{opens, closed_open, news_open, left, Stays, used_stays}
