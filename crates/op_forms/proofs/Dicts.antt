@@ -4,11 +4,13 @@ use Rattle.std.specs.Prelude.{slice_get, slice_set, if◌then◌else◌}
 use Rattle.std.proofs.Math.ListN.{length-set}
 use Rattle.std.proofs.lemmas.Bool.Decides.{nat_tests}
 use Rattle.nu_value.specs.declared.key.Atom.{Atom}
+use Rattle.nu_value.specs.declared.object.Object.{Object}
 use Rattle.nu_value.specs.declared.value.Value.{Value}
-use Rattle.nu_value.specs.Pairs.{PairList, key_eq, key_place, mapped_at, with_pair}
+use Rattle.nu_value.specs.Atoms.{key_eq}
+use Rattle.nu_value.specs.AtomLaws.{key_refl as key_self, key_is as key_same}
+use Rattle.nu_value.specs.Pairs.{PairList, key_place, mapped_at, with_pair}
 use Rattle.op_forms.specs.Parts.{PairsOf}
-use Rattle.op_forms.specs.Sound.{AreKeysDistinct}
-use Rattle.op_forms.proofs.Identity.{key_refl as key_self, key_is as key_same}
+use Rattle.op_forms.specs.Sound.{AreKeysDistinct, HasKey, AreKeyed}
 
 abbrev Lacks : PairList → List Atom → Type 0
 Lacks ps key = key_place ps key ≡ length ps
@@ -101,3 +103,24 @@ module _ (P : Value → Type 0) where
   pub pairs_with : (ps : PairList) (key : List Atom) (given v : Value) → PairsOf P ps → P given → P v → PairsOf P (with_pair ps key given v)
   pairs_with ps key given v p q r =
       of_if (nat_lt (key_place ps key) (length ps)) _ _ (of_set ps (key_place ps key) v (slice_get ps (key_place ps key)) refl p r) (of_end ps key given v p q r)
+
+-- ---- the keys of first values
+
+module _ (h : List Object) where
+  keyed_set : (ps : PairList) (i : ℕ) (v : Value) (o : Option (List Atom × Value × Value)) → slice_get ps i ≡ o → AreKeyed h ps → AreKeyed h (mapped_at ps i v o)
+  keyed_set ps i v None e p = p
+  keyed_set [] i v (Some r) e p = tt
+  keyed_set (x ∷ ps) zero v (Some r) e p = let same : x ≡ r = cc in (subst (λ t. HasKey h t.0 t.1) same p.0, p.1)
+  keyed_set (x ∷ ps) (suc i) v (Some r) e p = (p.0, keyed_set ps i v (Some r) e p.1)
+
+  keyed_end : (ps : PairList) (key : List Atom) (given v : Value) → AreKeyed h ps → HasKey h key given → AreKeyed h (ps ++ (key, given, v) ∷ [])
+  keyed_end [] key given v p q = (q, tt)
+  keyed_end (x ∷ ps) key given v p q = (p.0, keyed_end ps key given v p.1 q)
+
+  keyed_if : (b : Bool) (ps qs : PairList) → AreKeyed h ps → AreKeyed h qs → AreKeyed h (if b then ps else qs)
+  keyed_if true ps qs p q = p
+  keyed_if false ps qs p q = q
+
+  pub keyed_put : (ps : PairList) (key : List Atom) (given v : Value) → AreKeyed h ps → HasKey h key given → AreKeyed h (with_pair ps key given v)
+  keyed_put ps key given v p q =
+      keyed_if (nat_lt (key_place ps key) (length ps)) _ _ (keyed_set ps (key_place ps key) v (slice_get ps (key_place ps key)) refl p) (keyed_end ps key given v p q)

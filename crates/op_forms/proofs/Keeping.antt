@@ -8,6 +8,7 @@ use Rattle.nu_value.specs.declared.natives.Native.{Native}
 use Rattle.nu_value.specs.declared.value.Value.{Value}
 use Rattle.nu_value.specs.declared.value.Value.TheVariants as value
 use Rattle.nu_value.specs.declared.object.Object.{Object}
+use Rattle.nu_value.specs.Keyed.{object_kind}
 use Rattle.nu_value.specs.Natives.{native_classes, natives, class_of}
 use Rattle.op_forms.specs.declared.end.After.{After}
 use Rattle.op_forms.specs.declared.end.After.TheVariants as behind
@@ -23,20 +24,26 @@ use Rattle.op_forms.specs.Parts.{PartsOf}
 use Rattle.op_forms.specs.Right.{Grows, Claim, within, IsPlainValue, Known, Closed, AfterOf, HowOf, EndOf, ChangeOf, SetOf, NewOf, MadeOf, Uses, News}
 use Rattle.op_forms.specs.Sound.{AClass, sort_of, IsA, IsIn, LinksIn, ObjectIn, SoundHeap, Sound, AfterIn, HowIn, EndIn}
 use Rattle.op_forms.proofs.Grown.{set_cases, set_other, set_same, grown_length, grown_before, grown_either}
-use Rattle.op_forms.proofs.Objects.{parts_by, changed_parts, changed_links, changed_sort, is_a_more, in_more, links_more, object_more}
+use Rattle.op_forms.proofs.Objects.{parts_by, changed_parts, changed_links, changed_sort, changed_kind, is_a_more, in_more, links_more, object_more}
 
 -- ---- what stays of a heap
 
-set_sorts : (h : List Object) (i : ℕ) (o x : Object) → slice_get h i ≡ Some x → sort_of (Some o) ≡ sort_of (Some x) → (n : ℕ) → sort_of (slice_get (slice_set h i o) n) ≡ sort_of (slice_get h n)
-set_sorts [] i o x e s n = refl
-set_sorts (y ∷ h) zero o x e s zero = s ∙ sym (ap sort_of e)
-set_sorts (y ∷ h) zero o x e s (suc n) = refl
-set_sorts (y ∷ h) (suc i) o x e s zero = refl
-set_sorts (y ∷ h) (suc i) o x e s (suc n) = set_sorts h i o x e s n
+-- what no change of an object changes
+module _ {A : Type 0} (f : Option Object → A) (same : (k : Change) (o : Object) → f (Some (changed_by k o)) ≡ f (Some o)) where
+  set_stays : (h : List Object) (i : ℕ) (k : Change) (o : Object) → slice_get h i ≡ Some o → (n : ℕ) → f (slice_get (slice_set h i (changed_by k o)) n) ≡ f (slice_get h n)
+  set_stays [] i k o e n = refl
+  set_stays (y ∷ h) zero k o e zero = same k o ∙ sym (ap f e)
+  set_stays (y ∷ h) zero k o e (suc n) = refl
+  set_stays (y ∷ h) (suc i) k o e zero = refl
+  set_stays (y ∷ h) (suc i) k o e (suc n) = set_stays h i k o e n
 
-put_sorts : (h : List Object) (i : ℕ) (k : Change) (o : Option Object) → slice_get h i ≡ o → (n : ℕ) → sort_of (slice_get (put_at h i k o) n) ≡ sort_of (slice_get h n)
-put_sorts h i k None e n = refl
-put_sorts h i k (Some o) e n = set_sorts h i (changed_by k o) o e (changed_sort k o) n
+  put_stays : (h : List Object) (i : ℕ) (k : Change) (o : Option Object) → slice_get h i ≡ o → (n : ℕ) → f (slice_get (put_at h i k o) n) ≡ f (slice_get h n)
+  put_stays h i k None e n = refl
+  put_stays h i k (Some o) e n = set_stays h i k o e n
+
+  in_stays : (h : List Object) (t : Option (ℕ × Change)) (n : ℕ) → f (slice_get (set_in h t) n) ≡ f (slice_get h n)
+  in_stays h None n = refl
+  in_stays h (Some t) n = put_stays h t.0 t.1 (slice_get h t.0) refl n
 
 put_length : (h : List Object) (i : ℕ) (k : Change) (o : Option Object) → length (put_at h i k o) ≡ length h
 put_length h i k None = refl
@@ -46,15 +53,15 @@ pub set_length : (h : List Object) (t : Option (ℕ × Change)) → length (set_
 set_length h None = refl
 set_length h (Some t) = put_length h t.0 t.1 (slice_get h t.0)
 
-in_set_sorts : (h : List Object) (t : Option (ℕ × Change)) (n : ℕ) → sort_of (slice_get (set_in h t) n) ≡ sort_of (slice_get h n)
-in_set_sorts h None n = refl
-in_set_sorts h (Some t) n = put_sorts h t.0 t.1 (slice_get h t.0) refl n
+pub stays : {A : Type 0} (f : Option Object → A) → ((k : Change) (o : Object) → f (Some (changed_by k o)) ≡ f (Some o)) → (h : List Object) (d : Doing) (n : ℕ) → n < length h → f (slice_get (heap_after h d) n) ≡ f (slice_get h n)
+stays f same h d n there = ap f (grown_before (set_in h d.set) d.made n (omega (arith, set_length h d.set))) ∙ in_stays f same h d.set n
 
 pub grows : (h : List Object) (d : Doing) → Grows h (heap_after h d)
 grows h d =
     record {
       longer = omega (arith, grown_length (set_in h d.set) d.made, set_length h d.set);
-      sorts = λ n there. ap sort_of (grown_before (set_in h d.set) d.made n (omega (arith, set_length h d.set))) ∙ in_set_sorts h d.set n;
+      sorts = stays sort_of changed_sort h d;
+      kinds = λ n. stays (object_kind n) (changed_kind n) h d n;
     }
 
 -- ---- the objects after it
@@ -70,18 +77,18 @@ made_at c w n (o ∷ os) m (suc j) x e =
 
 -- what stands where one object is changed is an object that was there, or is changed
 changed_at : (codes : ℕ) (w : World) (more : List Object) → Grows w.heap more → SoundHeap codes w.heap → (i : ℕ) (k : Change) → ChangeOf (within more) w k → (o : Option Object) → slice_get w.heap i ≡ o → (n : ℕ) (x : Object) → slice_get (put_at w.heap i k o) n ≡ Some x → ObjectIn codes more n x
-changed_at codes w more g s i k p None at n x e = object_more w.heap more g codes n x (s.objects n x e)
+changed_at codes w more g s i k p None at n x e = object_more codes w.heap more s g n x (s.objects n x e)
 changed_at codes w more g s i k p (Some o) at n x e =
     elim (set_cases w.heap i (changed_by k o) n x e) [
       | inl q ↦
-          let old : ObjectIn codes more i o = object_more w.heap more g codes i o (s.objects i o at) in
-          subst (λ j. ObjectIn codes more j x) (sym q.0)
-          (subst (λ y. ObjectIn codes more i y) (sym q.1) (changed_parts (within more) w k o old.0 p, changed_links (within more) w codes more i k o old.1 p))
-      | inr q ↦ object_more w.heap more g codes n x (s.objects n x q)
+          let parts : PartsOf (IsIn more) (changed_by k o) = changed_parts (within more) w k o (object_more codes w.heap more s g i o (s.objects i o at)).0 p in
+          let links : LinksIn codes more i (changed_by k o) = links_more codes w.heap more s g i (changed_by k o) (changed_links (within more) w codes i k o (s.objects i o at).1 p) in
+          subst (λ j. ObjectIn codes more j x) (sym q.0) (subst (λ y. ObjectIn codes more i y) (sym q.1) (parts, links))
+      | inr q ↦ object_more codes w.heap more s g n x (s.objects n x q)
     ]
 
 set_at : (codes : ℕ) (w : World) (more : List Object) → Grows w.heap more → SoundHeap codes w.heap → (t : Option (ℕ × Change)) → SetOf (within more) w t → (n : ℕ) (x : Object) → slice_get (set_in w.heap t) n ≡ Some x → ObjectIn codes more n x
-set_at codes w more g s None p n x e = object_more w.heap more g codes n x (s.objects n x e)
+set_at codes w more g s None p n x e = object_more codes w.heap more s g n x (s.objects n x e)
 set_at codes w more g s (Some t) p n x e = changed_at codes w more g s t.0 t.1 p.0 (slice_get w.heap t.0) refl n x e
 
 -- ---- the classes that no script makes
@@ -175,7 +182,7 @@ used_sound w d s u =
                   | inr q ↦
                       let at : n ≡ q.0 + length w.heap = omega (arith, q.1, set_length w.heap d.set) in
                       let m : PartsOf (IsIn more) x × LinksIn codes w.heap (q.0 + length w.heap) x × NewOf (within more) w x = made_at (within more) w (length w.heap) d.made u.made q.0 x q.2 in
-                      subst (λ k. ObjectIn codes more k x) (sym at) (m.0, links_more w.heap more g codes _ x m.1)
+                      subst (λ k. ObjectIn codes more k x) (sym at) (m.0, links_more codes w.heap more s.heap g _ x m.1)
                 ];
             natives = λ n small.
                 grown_before (set_in w.heap d.set) d.made n (omega (arith, set_length w.heap d.set, many codes w.heap s.heap)) ∙ set_natives codes w.heap s.heap d.set n small;

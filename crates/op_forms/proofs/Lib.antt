@@ -1,7 +1,7 @@
 pub mod Names
-pub mod Identity
 pub mod Bindings
 pub mod Dicts
+pub mod Keys
 pub mod Grown
 pub mod Objects
 pub mod Keeping

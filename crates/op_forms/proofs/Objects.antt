@@ -6,15 +6,17 @@ use Rattle.nu_value.specs.declared.value.Value.{Value}
 use Rattle.nu_value.specs.declared.value.Value.TheVariants as value
 use Rattle.nu_value.specs.declared.object.Object.{Object}
 use Rattle.nu_value.specs.declared.object.Object.TheVariants as object
+use Rattle.nu_value.specs.Keyed.{object_kind}
 use Rattle.nu_value.specs.Names.{NameList}
 use Rattle.nu_value.specs.Pairs.{PairList}
 use Rattle.op_forms.specs.declared.world.World.{World}
 use Rattle.op_forms.specs.Doing.{Change, Fill, Bind, Unbind, Hold, Move, Finish, Put, Fit, changed_by}
 use Rattle.op_forms.specs.Parts.{AllOf, NamesOf, PairsOf, OrUnset, NumberOf, PartsOf}
 use Rattle.op_forms.specs.Right.{Grows, Claim, ChangeOf}
-use Rattle.op_forms.specs.Sound.{Sort, sort_of, IsA, IsIn, AreCells, BaseIn, CauseIn, Iterates, IsOver, LinksIn, ObjectIn}
+use Rattle.op_forms.specs.Sound.{Sort, sort_of, IsA, IsIn, AreCells, BaseIn, CauseIn, Iterates, IsOver, LinksIn, ObjectIn, SoundHeap}
 use Rattle.op_forms.proofs.Bindings.{distinct_with, distinct_without, names_with, names_without}
-use Rattle.op_forms.proofs.Dicts.{distinct_put, pairs_with}
+use Rattle.op_forms.proofs.Dicts.{distinct_put, keyed_put, pairs_with}
+use Rattle.op_forms.proofs.Keys.{keyed_more}
 
 -- ---- from one claim to another
 
@@ -79,26 +81,26 @@ changed_parts c w (Put key given v) (object.Dict pairs) p q = pairs_with c.of pa
 changed_parts c w (Fit pairs) (object.Dict old) p q = q.0
 changed_parts c w k o p q = p
 
-pub changed_links : (c : Claim) (w : World) (codes : ℕ) (h : List Object) (n : ℕ) (k : Change) (o : Object) → LinksIn codes h n o → ChangeOf c w k → LinksIn codes h n (changed_by k o)
-changed_links c w codes h n (Fill items) (object.List old) l q = l
-changed_links c w codes h n (Bind name v) (object.Space names) l q = distinct_with names name v l
-changed_links c w codes h n (Bind name v) (object.Instance class fields) l q = (l.0, distinct_with fields name v l.1)
-changed_links c w codes h n (Bind name v) (object.Exception class args entries fields cause) l q =
+pub changed_links : (c : Claim) (w : World) (codes n : ℕ) (k : Change) (o : Object) → LinksIn codes w.heap n o → ChangeOf c w k → LinksIn codes w.heap n (changed_by k o)
+changed_links c w codes n (Fill items) (object.List old) l q = l
+changed_links c w codes n (Bind name v) (object.Space names) l q = distinct_with names name v l
+changed_links c w codes n (Bind name v) (object.Instance class fields) l q = (l.0, distinct_with fields name v l.1)
+changed_links c w codes n (Bind name v) (object.Exception class args entries fields cause) l q =
     (l.0, distinct_with fields name v l.1, l.2)
-changed_links c w codes h n (Bind name v) (object.Class own base names false) l q = (l.0, distinct_with names name v l.1)
-changed_links c w codes h n (Unbind name) (object.Space names) l q = distinct_without names name l
-changed_links c w codes h n (Unbind name) (object.Instance class fields) l q = (l.0, distinct_without fields name l.1)
-changed_links c w codes h n (Unbind name) (object.Exception class args entries fields cause) l q =
+changed_links c w codes n (Bind name v) (object.Class own base names false) l q = (l.0, distinct_with names name v l.1)
+changed_links c w codes n (Unbind name) (object.Space names) l q = distinct_without names name l
+changed_links c w codes n (Unbind name) (object.Instance class fields) l q = (l.0, distinct_without fields name l.1)
+changed_links c w codes n (Unbind name) (object.Exception class args entries fields cause) l q =
     (l.0, distinct_without fields name l.1, l.2)
-changed_links c w codes h n (Unbind name) (object.Class own base names false) l q = (l.0, distinct_without names name l.1)
-changed_links c w codes h n (Hold v) (object.Cell old) l q = l
-changed_links c w codes h n (Move place size) (object.Iterator over old older over_now) l q = l
-changed_links c w codes h n Finish (object.Iterator over place size over_now) l q = l
-changed_links c w codes h n (Put key given v) (object.Dict pairs) l q = distinct_put pairs key given v l
-changed_links c w codes h n (Fit pairs) (object.Dict old) l q = q.1
-changed_links c w codes h n k o l q = l
+changed_links c w codes n (Unbind name) (object.Class own base names false) l q = (l.0, distinct_without names name l.1)
+changed_links c w codes n (Hold v) (object.Cell old) l q = l
+changed_links c w codes n (Move place size) (object.Iterator over old older over_now) l q = l
+changed_links c w codes n Finish (object.Iterator over place size over_now) l q = l
+changed_links c w codes n (Put key given v) (object.Dict pairs) l q = (distinct_put pairs key given v l.0, keyed_put w.heap pairs key given v l.1 q.2)
+changed_links c w codes n (Fit pairs) (object.Dict old) l q = (q.1, q.2)
+changed_links c w codes n k o l q = l
 
--- its kind stays
+-- its kind stays, and what it is as a key
 pub changed_sort : (c : Change) (o : Object) → sort_of (Some (changed_by c o)) ≡ sort_of (Some o)
 changed_sort (Fill items) (object.List old) = refl
 changed_sort (Bind name v) (object.Space names) = refl
@@ -115,6 +117,23 @@ changed_sort Finish (object.Iterator over place size over_now) = refl
 changed_sort (Put key given v) (object.Dict pairs) = refl
 changed_sort (Fit pairs) (object.Dict old) = refl
 changed_sort c o = refl
+
+pub changed_kind : (n : ℕ) (c : Change) (o : Object) → object_kind n (Some (changed_by c o)) ≡ object_kind n (Some o)
+changed_kind n (Fill items) (object.List old) = refl
+changed_kind n (Bind name v) (object.Space names) = refl
+changed_kind n (Bind name v) (object.Instance class fields) = refl
+changed_kind n (Bind name v) (object.Exception class args entries fields cause) = refl
+changed_kind n (Bind name v) (object.Class own base names false) = refl
+changed_kind n (Unbind name) (object.Space names) = refl
+changed_kind n (Unbind name) (object.Instance class fields) = refl
+changed_kind n (Unbind name) (object.Exception class args entries fields cause) = refl
+changed_kind n (Unbind name) (object.Class own base names false) = refl
+changed_kind n (Hold v) (object.Cell old) = refl
+changed_kind n (Move place size) (object.Iterator over old older over_now) = refl
+changed_kind n Finish (object.Iterator over place size over_now) = refl
+changed_kind n (Put key given v) (object.Dict pairs) = refl
+changed_kind n (Fit pairs) (object.Dict old) = refl
+changed_kind n c o = refl
 
 -- ---- in a heap that has grown
 
@@ -148,17 +167,19 @@ module _ (h more : List Object) (g : Grows h more) where
   over_more (value.Obj n) p = subst Iterates (sym (g.sorts n (over_there n (slice_get h n) refl p))) p
   over_more v p = p
 
-  pub links_more : (codes n : ℕ) (o : Object) → LinksIn codes h n o → LinksIn codes more n o
-  links_more codes n (object.Function code defaults keywords cells) l = (l.0, l.1, cells_more cells l.2)
-  links_more codes n (object.Method receiver function) l = is_a_more function _ l
-  links_more codes n (object.Class name base own native) l = (base_more n base l.0, l.1)
-  links_more codes n (object.Instance class fields) l = (is_a_more class _ l.0, l.1)
-  links_more codes n (object.Generator code state given cells) l = (l.0, cells_more cells l.1)
-  links_more codes n (object.Iterator over place size over_now) l = over_more over l
-  links_more codes n (object.View dict kind) l = is_a_more dict _ l
-  links_more codes n (object.Exception class args entries fields cause) l = (is_a_more class _ l.0, l.1, cause_more cause l.2)
-  links_more codes n (object.Trace exception) l = is_a_more exception _ l
-  links_more codes n o l = l
+module _ (codes : ℕ) (h more : List Object) (s : SoundHeap codes h) (g : Grows h more) where
+  pub links_more : (n : ℕ) (o : Object) → LinksIn codes h n o → LinksIn codes more n o
+  links_more n (object.Dict pairs) l = (l.0, keyed_more codes h more s g (in_more h more g) pairs l.1)
+  links_more n (object.Function code defaults keywords cells) l = (l.0, l.1, cells_more h more g cells l.2)
+  links_more n (object.Method receiver function) l = is_a_more h more g function _ l
+  links_more n (object.Class name base own native) l = (base_more h more g n base l.0, l.1)
+  links_more n (object.Instance class fields) l = (is_a_more h more g class _ l.0, l.1)
+  links_more n (object.Generator code state given cells) l = (l.0, cells_more h more g cells l.1)
+  links_more n (object.Iterator over place size over_now) l = over_more h more g over l
+  links_more n (object.View dict kind) l = is_a_more h more g dict _ l
+  links_more n (object.Exception class args entries fields cause) l = (is_a_more h more g class _ l.0, l.1, cause_more h more g cause l.2)
+  links_more n (object.Trace exception) l = is_a_more h more g exception _ l
+  links_more n o l = l
 
-  pub object_more : (codes n : ℕ) (o : Object) → ObjectIn codes h n o → ObjectIn codes more n o
-  object_more codes n o p = (parts_by (IsIn h) (IsIn more) in_more o p.0, links_more codes n o p.1)
+  pub object_more : (n : ℕ) (o : Object) → ObjectIn codes h n o → ObjectIn codes more n o
+  object_more n o p = (parts_by (IsIn h) (IsIn more) (in_more h more g) o p.0, links_more n o p.1)

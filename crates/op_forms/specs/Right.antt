@@ -6,6 +6,7 @@ use Rattle.nu_value.specs.declared.object.Object.{Object}
 use Rattle.nu_value.specs.declared.object.Object.TheVariants as object
 use Rattle.nu_value.specs.declared.value.Value.{Value}
 use Rattle.nu_value.specs.declared.value.Value.TheVariants as value
+use Rattle.nu_value.specs.Keyed.{object_kind}
 use Rattle.nu_value.specs.Names.{NameList}
 use Rattle.nu_value.specs.Natives.{native_classes}
 use Rattle.nu_value.specs.View.{is_text}
@@ -24,12 +25,13 @@ use Rattle.op_forms.specs.Doing.{Change, Fill, Bind, Unbind, Hold, Move, Finish,
 use Rattle.op_forms.specs.Fits.{are_texts}
 use Rattle.op_forms.specs.Parts.{AllOf, NamesOf, PairsOf, OrUnset, PartsOf}
 use Rattle.op_forms.specs.Signature.{arguments}
-use Rattle.op_forms.specs.Sound.{sort_of, AClass, AFunction, AGenerator, AnException, IsA, IsIn, AreNamesDistinct, AreKeysDistinct, LinksIn}
+use Rattle.op_forms.specs.Sound.{sort_of, AClass, AFunction, AGenerator, AnException, IsA, IsIn, AreNamesDistinct, AreKeysDistinct, HasKey, AreKeyed, LinksIn}
 
--- every object is there, and of the kind that it was
+-- every object is there, of the kind that it was, and gives the key that it gave
 pub record Grows (h more : List Object) : Type 0 where
   pub longer : length h ≤ length more
   pub sorts : (n : ℕ) → n < length h → sort_of (slice_get more n) ≡ sort_of (slice_get h n)
+  pub kinds : (n : ℕ) → n < length h → object_kind n (slice_get more n) ≡ object_kind n (slice_get h n)
 
 -- Claims
 
@@ -135,8 +137,8 @@ ChangeOf c w (Unbind name) = Unit {0}
 ChangeOf c w (Hold v) = OrUnset c.of v
 ChangeOf c w (Move place size) = Unit {0}
 ChangeOf c w Finish = Unit {0}
-ChangeOf c w (Put key given v) = c.of given × c.of v
-ChangeOf c w (Fit pairs) = PairsOf c.of pairs × AreKeysDistinct pairs
+ChangeOf c w (Put key given v) = c.of given × c.of v × HasKey w.heap key given
+ChangeOf c w (Fit pairs) = PairsOf c.of pairs × AreKeysDistinct pairs × AreKeyed w.heap pairs
 
 -- a dict that has texts as keys keeps them
 abbrev pub KeepsTexts : Change → Type 0

@@ -1,9 +1,11 @@
 -- Sound worlds: every number of an object is that of an object of the kind that is asked for.
-use Rattle.std.specs.Prelude.{◌≡◌, ◌≢◌, ℕ, ◌<◌, ◌≤◌, pos, List, [], ◌∷◌, length, Option, Some, None, ◌⊎◌, slice_get}
+use Rattle.std.specs.Prelude.{◌≡◌, ◌≢◌, ℕ, ◌<◌, ◌≤◌, pos, List, [], ◌∷◌, length, Option, Some, None, Ok, ◌⊎◌, slice_get}
 use Rattle.nu_value.specs.declared.value.Value.{Value}
 use Rattle.nu_value.specs.declared.value.Value.TheVariants as value
 use Rattle.nu_value.specs.declared.object.Object.{Object}
 use Rattle.nu_value.specs.declared.object.Object.TheVariants as object
+use Rattle.nu_value.specs.Keyed.{key}
+use Rattle.nu_value.specs.declared.key.Atom.{Atom}
 use Rattle.nu_value.specs.Names.{NameList, place_of}
 use Rattle.nu_value.specs.Natives.{native_classes}
 use Rattle.nu_value.specs.Pairs.{PairList, key_place}
@@ -78,6 +80,15 @@ abbrev pub AreKeysDistinct : PairList → Type 0
 AreKeysDistinct [] = Unit {0}
 AreKeysDistinct (p ∷ ps) = (key_place ps p.0 ≡ length ps) × AreKeysDistinct ps
 
+-- a value that is there has this key
+abbrev pub HasKey : List Object → List Atom → Value → Type 0
+HasKey h k v = IsIn h v × (key h v ≡ Ok k)
+
+-- the key of each pair is that of its first value
+abbrev pub AreKeyed : List Object → PairList → Type 0
+AreKeyed h [] = Unit {0}
+AreKeyed h (p ∷ ps) = HasKey h p.0 p.1 × AreKeyed h ps
+
 -- distinct names, with values
 abbrev pub NamesIn : List Object → NameList → Type 0
 NamesIn h ps = NamesOf (IsIn h) ps × AreNamesDistinct ps
@@ -111,7 +122,7 @@ IsOver h other = ⊥
 abbrev pub LinksIn : ℕ → List Object → ℕ → Object → Type 0
 LinksIn codes h number (object.Tuple items) = Unit {0}
 LinksIn codes h number (object.List items) = Unit {0}
-LinksIn codes h number (object.Dict pairs) = AreKeysDistinct pairs
+LinksIn codes h number (object.Dict pairs) = AreKeysDistinct pairs × AreKeyed h pairs
 LinksIn codes h number (object.Range start stop step) = step ≢ pos 0
 LinksIn codes h number (object.Function code defaults keywords cells) = (code < codes) × AreNamesDistinct keywords × AreCells h cells
 LinksIn codes h number (object.Method receiver function) = IsA h function AFunction
