@@ -26,6 +26,7 @@ saves_module s slot (Some v) none = go (nat_lt slot (length s.running.slots)) (a
   where
     no_less : (n : ℕ) → nat_lt n 0 ≡ false
     no_less n = grind (arith, nat_tests)
+
     go : (b : Bool) → b ≡ false → (if b then next (with_running s (slot_set s.running slot v)) else undefined s) ≡ undefined s
     go true e = cc
     go false e = refl

@@ -60,6 +60,7 @@ module _ {S : Type 0} (step : S → Stepped S) (printed : S → List ℕ) where
     where
       rest : (k : ℕ) → m + k ≡ n + (m - n + k)
       rest k = omega (arith, le)
+
       whole : (a b : ℕ) → a ≤ b → b ≡ a + (b - a)
       whole a b h = omega (arith, h)
 
