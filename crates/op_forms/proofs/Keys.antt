@@ -1,16 +1,15 @@
 -- The key of a value stays as a sound heap grows.
-use Rattle.std.proofs.Common.{◌≡◌, ℕ, zero, suc, ◌<◌, List, [], ◌∷◌, Option, Some, None, refl, sym, ap, subst, ◌∙◌, length}
-use Rattle.std.specs.Prelude.{slice_get, Ok}
-use Rattle.nu_value.specs.declared.key.Atom.{Atom}
+use Rattle.std.proofs.Common.{◌≡◌, ℕ, zero, suc, List, [], ◌∷◌, Option, Some, true, false, refl, ap, ◌∙◌, length}
+use Rattle.std.specs.Prelude.{slice_get}
 use Rattle.nu_value.specs.declared.key.Atom.TheVariants as atom
 use Rattle.nu_value.specs.declared.object.Object.{Object}
 use Rattle.nu_value.specs.declared.object.Object.TheVariants as object
 use Rattle.nu_value.specs.declared.value.Value.{Value}
 use Rattle.nu_value.specs.declared.value.Value.TheVariants as value
-use Rattle.nu_value.specs.Keyed.{Keyed, behind, followed, keys_of, Kind, One, Many, Numbers, Never, builtin_kind, object_kind, kind_of, kind_key, key_by, tuple_key, key}
+use Rattle.nu_value.specs.Keyed.{Keyed, behind, keys_of, Kind, Many, builtin_kind, object_kind, kind_of, kind_key, key_by, tuple_key, key}
 use Rattle.nu_value.specs.Pairs.{PairList}
 use Rattle.op_forms.specs.Right.{Grows}
-use Rattle.op_forms.specs.Sound.{IsIn, AllIn, HasKey, AreKeyed, SoundHeap}
+use Rattle.op_forms.specs.Sound.{IsIn, AllIn, AreKeyed, SoundHeap}
 
 -- the items of a tuple are there
 abbrev KindIn : List Object → Kind → Type 0

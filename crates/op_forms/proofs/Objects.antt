@@ -18,47 +18,58 @@ use Rattle.op_forms.proofs.Bindings.{distinct_with, distinct_without, names_with
 use Rattle.op_forms.proofs.Dicts.{distinct_put, keyed_put, pairs_with}
 use Rattle.op_forms.proofs.Keys.{keyed_more}
 
--- ---- from one claim to another
+-- ---- from two claims to another
+
+module _ (P Q R : Value → Type 0) (f : (v : Value) → P v → Q v → R v) where
+  pub all_from : (vs : List Value) → AllOf P vs → AllOf Q vs → AllOf R vs
+  all_from [] p q = tt
+  all_from (v ∷ vs) p q = (f v p.0 q.0, all_from vs p.1 q.1)
+
+  pub names_from : (ps : NameList) → NamesOf P ps → NamesOf Q ps → NamesOf R ps
+  names_from [] p q = tt
+  names_from (x ∷ ps) p q = (f x.1 p.0 q.0, names_from ps p.1 q.1)
+
+  pairs_from : (ps : PairList) → PairsOf P ps → PairsOf Q ps → PairsOf R ps
+  pairs_from [] p q = tt
+  pairs_from (x ∷ ps) p q = (f x.1 p.0 q.0, f x.2 p.1 q.1, pairs_from ps p.2 q.2)
+
+  unset_from : (v : Value) → OrUnset P v → OrUnset Q v → OrUnset R v
+  unset_from value.Unset p q = tt
+  unset_from v p q = f v p q
+
+  number_from : (n : Option ℕ) → NumberOf P n → NumberOf Q n → NumberOf R n
+  number_from None p q = tt
+  number_from (Some n) p q = f (value.Obj n) p q
+
+  pub parts_from : (o : Object) → PartsOf P o → PartsOf Q o → PartsOf R o
+  parts_from (object.Tuple items) p q = all_from items p q
+  parts_from (object.List items) p q = all_from items p q
+  parts_from (object.Dict pairs) p q = pairs_from pairs p q
+  parts_from (object.Range start stop step) p q = tt
+  parts_from (object.Function code defaults keywords cells) p q =
+      (all_from defaults p.0 q.0, names_from keywords p.1 q.1, all_from cells p.2 q.2)
+  parts_from (object.Method receiver function) p q = (f receiver p.0 q.0, f (value.Obj function) p.1 q.1)
+  parts_from (object.Class name base own native) p q = (number_from base p.0 q.0, names_from own p.1 q.1)
+  parts_from (object.Instance class fields) p q = (f (value.Obj class) p.0 q.0, names_from fields p.1 q.1)
+  parts_from (object.Generator code state given cells) p q = (all_from given p.0 q.0, all_from cells p.1 q.1)
+  parts_from (object.Iterator over place size over_now) p q = f over p q
+  parts_from (object.View dict kind) p q = f (value.Obj dict) p q
+  parts_from (object.Cell v) p q = unset_from v p q
+  parts_from (object.Space names) p q = names_from names p q
+  parts_from (object.Exception class args entries fields cause) p q =
+      (f (value.Obj class) p.0 q.0, all_from args p.1 q.1, names_from fields p.2 q.2, number_from cause p.3 q.3)
+  parts_from (object.Builtin name receiver) p q = unset_from receiver p q
+  parts_from (object.Trace exception) p q = f (value.Obj exception) p q
 
 module _ (P Q : Value → Type 0) (f : (v : Value) → P v → Q v) where
   pub all_by : (vs : List Value) → AllOf P vs → AllOf Q vs
-  all_by [] p = tt
-  all_by (v ∷ vs) p = (f v p.0, all_by vs p.1)
+  all_by vs p = all_from P P Q (λ v x y. f v x) vs p p
 
   pub names_by : (ps : NameList) → NamesOf P ps → NamesOf Q ps
-  names_by [] p = tt
-  names_by (q ∷ ps) p = (f q.1 p.0, names_by ps p.1)
-
-  pairs_by : (ps : PairList) → PairsOf P ps → PairsOf Q ps
-  pairs_by [] p = tt
-  pairs_by (q ∷ ps) p = (f q.1 p.0, f q.2 p.1, pairs_by ps p.2)
-
-  unset_by : (v : Value) → OrUnset P v → OrUnset Q v
-  unset_by value.Unset p = tt
-  unset_by v p = f v p
-
-  number_by : (n : Option ℕ) → NumberOf P n → NumberOf Q n
-  number_by None p = tt
-  number_by (Some n) p = f (value.Obj n) p
+  names_by ps p = names_from P P Q (λ v x y. f v x) ps p p
 
   pub parts_by : (o : Object) → PartsOf P o → PartsOf Q o
-  parts_by (object.Tuple items) p = all_by items p
-  parts_by (object.List items) p = all_by items p
-  parts_by (object.Dict pairs) p = pairs_by pairs p
-  parts_by (object.Range start stop step) p = tt
-  parts_by (object.Function code defaults keywords cells) p = (all_by defaults p.0, names_by keywords p.1, all_by cells p.2)
-  parts_by (object.Method receiver function) p = (f receiver p.0, f (value.Obj function) p.1)
-  parts_by (object.Class name base own native) p = (number_by base p.0, names_by own p.1)
-  parts_by (object.Instance class fields) p = (f (value.Obj class) p.0, names_by fields p.1)
-  parts_by (object.Generator code state given cells) p = (all_by given p.0, all_by cells p.1)
-  parts_by (object.Iterator over place size over_now) p = f over p
-  parts_by (object.View dict kind) p = f (value.Obj dict) p
-  parts_by (object.Cell v) p = unset_by v p
-  parts_by (object.Space names) p = names_by names p
-  parts_by (object.Exception class args entries fields cause) p =
-      (f (value.Obj class) p.0, all_by args p.1, names_by fields p.2, number_by cause p.3)
-  parts_by (object.Builtin name receiver) p = unset_by receiver p
-  parts_by (object.Trace exception) p = f (value.Obj exception) p
+  parts_by o p = parts_from P P Q (λ v x y. f v x) o p p
 
 -- ---- where an object is changed
 
