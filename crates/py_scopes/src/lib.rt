@@ -29,7 +29,11 @@ pub fn resolve(alloc: Global, script: Script) -> Result<Scoped, ScopeEnd>
     resolve_as(alloc, false, script)
 }
 
-/// The same of the built-in text: it may also name the natives that are for this text alone.
+/// The scopes of the built-in text with the homes of their names, or the first kind of the table whose rule it breaks
+/// (reference, sections 4.2, 6 to 8).
+///
+/// The rules and their order are those of `resolve`, but this text may also name the natives that are for it alone,
+/// those of `nu_text::TEXT_NATIVES`. `Memory` says nothing of the text.
 pub fn resolve_built_in(alloc: Global, script: Script) -> Result<Scoped, ScopeEnd>
     ensures { AnswersBuiltIn script result }
 {
