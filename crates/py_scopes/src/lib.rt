@@ -1,6 +1,7 @@
 //! Where the names of a script live, and its static rules (reference, sections 4.2, 6 to 8).
 #![tactic(auto)]
 
+ghost use Rattle.std.specs.Prelude.{◌≡◌};
 ghost use Rattle.py_scopes.specs.Resolve.{Answers, AnswersAs, AnswersBuiltIn};
 
 mod end;
@@ -46,7 +47,14 @@ fn resolve_as(alloc: Global, built_in: bool, script: Script) -> Result<Scoped, S
 {
     match resolved(alloc, built_in, &script) {
         Ok(Ok(scopes)) => Ok(Scoped { script, scopes }),
-        Ok(Err(end)) => Err(end),
-        Err(_) => Err(ScopeEnd::Memory),
+        Ok(Err(end)) => refused(script, end),
+        Err(_) => refused(script, ScopeEnd::Memory),
     }
+}
+
+fn refused(script: Script, end: ScopeEnd) -> Result<Scoped, ScopeEnd>
+    ensures { result ≡ Err end }
+{
+    script.let_go();
+    Err(end)
 }
