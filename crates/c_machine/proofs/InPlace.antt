@@ -21,7 +21,9 @@ use Rattle.op_forms.specs.declared.world.World.{World}
 use Rattle.op_forms.specs.Fits.{fits, is_in}
 use Rattle.op_rules.specs.IntRows.{int_row}
 use Rattle.op_forms.specs.Answers.{Answer, keeps, names_of}
-use Rattle.op_rules.specs.NameRows.{not_defined, value_or, with_binding, altered}
+use Rattle.op_forms.specs.Doing.{Bind, put_at}
+use Rattle.op_rules.specs.Binding.{bound}
+use Rattle.op_rules.specs.NameRows.{not_defined, value_or}
 use Rattle.op_forms.specs.Signature.{arguments, further}
 use Rattle.op_forms.specs.declared.signature.ArgumentKind.TheVariants as kind
 use Rattle.op_rules.specs.Table.{row}
@@ -39,7 +41,7 @@ use Rattle.c_machine.specs.Standing.{Outside, state_of}
 -- ---- what the table answers
 
 -- the row of two integers goes by them alone
-quick_row : (o : Op) (w : World) (a b : ℤ) → is_quick o ≡ true → answered w o (Some (value.Int a ∷ value.Int b ∷ [])) ≡ Some (keeps w.heap (int_row o [] (value.Int a ∷ value.Int b ∷ [])))
+quick_row : (o : Op) (w : World) (a b : ℤ) → is_quick o ≡ true → answered w o (Some (value.Int a ∷ value.Int b ∷ [])) ≡ Some (bound w (keeps w.heap (int_row o [] (value.Int a ∷ value.Int b ∷ []))))
 quick_row op.Add w a b h = refl
 quick_row op.Sub w a b h = refl
 quick_row op.Mul w a b h = refl
@@ -84,7 +86,7 @@ pair_answered : (o : Op) (p q : Option Value) (a b : ℤ) (v : Value) (w : World
     → answered w o (both p (both q (Some []))) ≡ Some (given w.heap v)
 pair_answered o p q a b v w h k quick e =
     ap (λ x. answered w o (both x (both q (Some [])))) (integer p a h) ∙ ap (λ x. answered w o (both (Some (value.Int a)) (both x (Some [])))) (integer q b k)
-    ∙ quick_row o w a b quick ∙ ap (λ x. Some (keeps w.heap x)) e
+    ∙ quick_row o w a b quick ∙ ap (λ x. Some (bound w (keeps w.heap x))) e
 
 pub pair_answers : (o : Op) (p q : Option Value) (a b : ℤ) (r : Option Value) (w : World) → int_of p ≡ Some a → int_of q ≡ Some b → IfSome r (λ v. is_quick o ≡ true) → IfSome r (λ v. int_row o [] (value.Int a ∷ value.Int b ∷ []) ≡ opend.Give v)
     → IfSome r (λ v. answered w o (both p (both q (Some []))) ≡ Some (given w.heap v))
@@ -129,9 +131,9 @@ or_value (Some x) b other v h = cc
 pub global_answered : (w : World) (name : List ℕ) (v : Value) → option_or (value_at (names_of (slice_get w.heap w.«module»)) name) (value_at (names_of (slice_get w.heap w.builtins)) name) ≡ Some v
     → answered w op.Global (Some (value.Str name ∷ [])) ≡ Some (given w.heap v)
 global_answered w name v h =
-    ap (λ e. Some (keeps w.heap e)) (or_value (value_at (names_of (slice_get w.heap w.«module»)) name) (value_at (names_of (slice_get w.heap w.builtins)) name) (not_defined name) v h)
+    ap (λ e. Some (bound w (keeps w.heap e))) (or_value (value_at (names_of (slice_get w.heap w.«module»)) name) (value_at (names_of (slice_get w.heap w.builtins)) name) (not_defined name) v h)
 
-bound_answer : (h : List Object) (n : ℕ) (name : List ℕ) (v : Value) (o : Option Object) (h' : List Object) → bound_in h n name v o ≡ Some h' → altered h n (with_binding name v) o ≡ given h' value.None
+bound_answer : (h : List Object) (n : ℕ) (name : List ℕ) (v : Value) (o : Option Object) (h' : List Object) → bound_in h n name v o ≡ Some h' → given (put_at h n (Bind name v) o) value.None ≡ given h' value.None
 bound_answer h n name v None h' e = cc
 bound_answer h n name v (Some o) h' e = ap (λ l. given l value.None) cc
 

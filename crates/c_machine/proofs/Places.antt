@@ -10,7 +10,7 @@ use Rattle.nu_value.specs.declared.object.Object.TheVariants as object
 use Rattle.nu_value.specs.declared.value.Value.{Value}
 use Rattle.nu_value.specs.Names.{NameList, place_of, with_name, with_value}
 use Rattle.op_forms.specs.Answers.{names_of}
-use Rattle.op_rules.specs.NameRows.{with_binding}
+use Rattle.op_forms.specs.Doing.{Bind, changed_by}
 use Rattle.c_machine.specs.declared.execution.Execution.{Execution}
 use Rattle.c_machine.specs.declared.lookup.Hint.{Hint}
 use Rattle.c_machine.specs.InPlace.{behind, bound_in}
@@ -66,7 +66,7 @@ stay_with ps k v name n e l = by (nat_lt (place_of ps k) (length ps))
 stay_same : (ps : NameList) → StayIn ps ps
 stay_same ps name n e l = (e, l)
 
-stay_bound : (k : List ℕ) (v : Value) (o : Object) → StayIn (names_of (Some o)) (names_of (Some (with_binding k v o)))
+stay_bound : (k : List ℕ) (v : Value) (o : Object) → StayIn (names_of (Some o)) (names_of (Some (changed_by (Bind k v) o)))
 stay_bound k v (object.Space names) = stay_with names k v
 stay_bound k v other = λ name n e l. absurd (omega (arith, l))
 
@@ -81,8 +81,8 @@ set_stays w k v h e = by (slice_get w.heap w.«module») refl e
     by : (o : Option Object) → slice_get w.heap w.«module» ≡ o → bound_in w.heap w.«module» k v o ≡ Some h → StayIn (names_of (slice_get w.heap w.«module»)) (names_of (slice_get h w.«module»))
     by None s e = cc
     by (Some o) s e =
-        let is : slice_set w.heap w.«module» (with_binding k v o) ≡ h = cc in
-        let there : slice_get h w.«module» ≡ Some (with_binding k v o) = subst (λ l. slice_get l w.«module» ≡ Some (with_binding k v o)) is (written w.heap w.«module» o (with_binding k v o) s) in
+        let is : slice_set w.heap w.«module» (changed_by (Bind k v) o) ≡ h = cc in
+        let there : slice_get h w.«module» ≡ Some (changed_by (Bind k v) o) = subst (λ l. slice_get l w.«module» ≡ Some (changed_by (Bind k v) o)) is (written w.heap w.«module» o (changed_by (Bind k v) o) s) in
         subst (λ a. StayIn (names_of a) (names_of (slice_get h w.«module»))) (sym s) (subst (λ a. StayIn (names_of (Some o)) (names_of a)) (sym there) (stay_bound k v o))
 
 -- whether or not a name got a value

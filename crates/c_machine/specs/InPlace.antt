@@ -10,7 +10,7 @@ use Rattle.op_forms.specs.declared.op.Op.{Op}
 use Rattle.op_forms.specs.declared.op.Op.TheVariants as op
 use Rattle.op_forms.specs.declared.world.World.{World}
 use Rattle.op_forms.specs.Answers.{Answer}
-use Rattle.op_rules.specs.NameRows.{with_binding}
+use Rattle.op_forms.specs.Doing.{Bind, changed_by}
 use Rattle.c_meaning.specs.declared.code.Code.{Code}
 use Rattle.c_meaning.specs.State.{State}
 use Rattle.c_meaning.specs.Step.{operates, values}
@@ -67,7 +67,7 @@ with_heap w h = record { heap = h; «module» = w.«module»; builtins = w.built
 -- the objects once a name of a space has a value, if the space is there
 abbrev pub bound_in : List Object → ℕ → List ℕ → Value → Option Object → Option (List Object)
 bound_in h n name v None = None
-bound_in h n name v (Some o) = Some (slice_set h n (with_binding name v o))
+bound_in h n name v (Some o) = Some (slice_set h n (changed_by (Bind name v) o))
 
 -- behind a statement that stored a value
 abbrev pub behind : Execution → List Object → ℕ → Value → Execution

@@ -5,7 +5,7 @@ ghost use Rattle.nu_value.specs.declared.value.Value.TheVariants as value;
 ghost use Rattle.nu_value.specs.Names.{place_of};
 ghost use Rattle.op_forms.specs.declared.op.Op.TheVariants as op;
 ghost use Rattle.op_forms.specs.Answers.{names_of};
-ghost use Rattle.op_rules.specs.NameRows.{with_binding};
+ghost use Rattle.op_forms.specs.Doing.{Bind, changed_by};
 ghost use Rattle.c_meaning.specs.Step as meaning;
 ghost use Rattle.c_machine.specs.Effects.{answered};
 ghost use Rattle.c_machine.specs.Places.{Keeps, Right, StayIn, asked, module_names};
@@ -23,11 +23,11 @@ use runtime_table::World;
 #[tactic(auto, using(crate::proofs::Places::value_set))]
 fn bind(object: &mut Object, name: &RcStr, place: u64, value: Value) -> bool
     requires { place_of (names_of (Some object.old)) name.now ≡ place }
-    ensures bound { result ≡ true → object.new ≡ with_binding name.now value object.old }
+    ensures bound { result ≡ true → object.new ≡ changed_by (Bind name.now value) object.old }
     ensures same { result ≡ false → object.new ≡ object.old }
 {
     let Object::Space(names) = object else {
-        return true;
+        return false;
     };
     if place < names.len() as u64 {
         names.set_at(place as usize, value);
@@ -57,7 +57,7 @@ fn bind_in(heap: &mut Heap, space: u64, name: &RcStr, place: u64, value: Value) 
 #[tactic(auto, using(crate::proofs::Places::value_set))]
 fn rebind(object: &mut Object, name: &RcStr, place: u64, value: Value) -> bool
     requires { place_of (names_of (Some object.old)) name.now ≡ place }
-    ensures bound { result ≡ true → object.new ≡ with_binding name.now value object.old }
+    ensures bound { result ≡ true → object.new ≡ changed_by (Bind name.now value) object.old }
     ensures same { result ≡ false → object.new ≡ object.old }
 {
     let _ = name;

@@ -41,7 +41,7 @@ IsPlain (opend.Raise n args) = (n < length native_classes) × IsPlainText args
 IsPlain (opend.Ask function items names after) = ⊥
 IsPlain (opend.Resume generator how) = ⊥
 IsPlain (opend.Put text) = Unit {0}
-IsPlain opend.Line = Unit {0}
+IsPlain opend.Line = ⊥
 IsPlain (opend.Stop kind) = Unit {0}
 
 -- they are right
@@ -54,7 +54,6 @@ module _ (c : Claim) (w : World) (k : Closed c w) where
   plain_end (opend.Give v) p = k.plain v p
   plain_end (opend.Raise n args) p = (inl (k.natives n p.0), texts_of args p.1)
   plain_end (opend.Put text) p = tt
-  plain_end opend.Line p = tt
   plain_end (opend.Stop kind) p = tt
   plain_end e p = absurd p
 

@@ -30,6 +30,11 @@ use Rattle.op_rules.specs.Table.{family_row, family_of, Group, Names, Operators,
 use Rattle.op_rules.proofs.Plain.{plain_right, int_plain, text_plain, call_plain, truth_after_plain, length_after_plain}
 use Rattle.op_rules.proofs.Usual.{ended, fails, failed, idle, given_right, change_right, made_right, if_end}
 
+-- once it is bound nothing is asked any more
+abbrev pub Asked : World → OpEnd → Type 0
+Asked w (opend.Ask f args names a) = ⊥
+Asked w other = Unit {0}
+
 module _ (c : Claim) (w : World) (k : Closed c w) where
   -- ---- names
 
@@ -114,12 +119,7 @@ module _ (c : Claim) (w : World) (k : Closed c w) where
 
   -- ---- binding
 
-  -- nothing is asked for any more
-  abbrev pub Asked : OpEnd → Type 0
-  Asked (opend.Ask f args names a) = ⊥
-  Asked other = Unit {0}
-
-  pub bound_right : (e : OpEnd) → EndOf c w e → Right c w (bound_end w e) × Asked (bound_end w e).end
+  pub bound_right : (e : OpEnd) → EndOf c w e → Right c w (bound_end w e) × Asked w (bound_end w e).end
   bound_right (opend.Ask f args names a) p = (idle c w k, tt)
   bound_right (opend.Give v) p = (ended c w k (opend.Give v) p, tt)
   bound_right (opend.Raise n args) p = (ended c w k (opend.Raise n args) p, tt)

@@ -1,6 +1,7 @@
 -- Statements of accepted scripts are lawful.
 use Rattle.std.proofs.Common.{◌≡◌, ℕ, suc, ◌+◌, Bool, true, false, ◌||◌, List, [], ◌∷◌, ◌++◌, length, map, Option, Some, None, refl, ap, ◌∙◌, sym, subst, arith}
-use Rattle.std.specs.Prelude.{IsTrue}
+use Rattle.std.specs.Prelude.{IsTrue, codes}
+use Rattle.nu_text.specs.Names.{is_among, built_in_names}
 use Rattle.op_forms.specs.declared.signature.ArgumentKind.TheVariants as operand
 use Rattle.py_ast.specs.Lines.{line_of}
 use Rattle.py_ast.specs.declared.expr.Param.{Param}
@@ -38,6 +39,10 @@ use Rattle.py_accepted.proofs.Inner.{own, inner_room, names_of, Facts, IsScope, 
 use Rattle.py_accepted.proofs.Parts.{Parameters, no_param, required, optional, slash, starred, double, same_by, same_under}
 use Rattle.py_accepted.proofs.Expressions.{augmented_takes, expr_good}
 use Rattle.py_accepted.proofs.Functions.{function_does, both_of}
+
+object_is_built_in : is_among built_in_names (codes "object") ≡ true
+unfolding built_in_names
+object_is_built_in = refl
 
 -- Where a statement stands: in an `except` clause its room has one, and what it unbinds may be unbound
 
@@ -240,7 +245,7 @@ module _ (z : Case) (k : ℕ) (place : Place) (ps : List (List ℕ)) (r : Room) 
       (λ e ds f p q. (p.0, q, p.1))
 
   base_does : (j : ℕ) (line : ℕ) (x : Option Expr) → Does z j (At z j place ps r) (LawfulExpression z.roster r) (survey.value_of x place) (resolved.base_of d line x)
-  base_does j line None = nothing z _ (λ e. (tt, tt, tt))
+  base_does j line None = nothing z _ (λ e. (object_is_built_in, tt, tt))
   base_does j line (Some x) = (expr_good x).value z j place ps r
 
   run_class : (n line : ℕ) (x : List ℕ) → IsScope z n line kind.Class x place → (b : syntax.Body) → RunAs OfClass (code (inside d n handed (Some x)) handed b)

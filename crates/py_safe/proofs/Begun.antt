@@ -73,9 +73,9 @@ module _ (z : Program) (tabs : Tables) where
         begins = record {
           coded = k.at;
           count = k.count;
-          there = all_there (seen marks s) given inside.1 opens.0;
+          there = all_there (seen marks s) given inside.0.0 opens.0;
           frees = bodies.0 ∙ ap frees_in k.at;
-          all = (inside.2, opens.1);
+          all = (inside.1.1, opens.1);
           names = λ y. absurd (let e : is_class (z.role code) ≡ true = y in cc);
         };
       }
@@ -95,7 +95,7 @@ module _ (z : Program) (tabs : Tables) where
           count = k.count;
           there = there;
           frees = bodies.0 ∙ ap frees_in k.at;
-          all = (inside.3, opens.2);
+          all = (inside.1.2, opens.2);
           names = names_given z (seen marks s) code k.is given as_given;
         };
       }

@@ -27,7 +27,7 @@ use Rattle.py_safe.proofs.Frames.{yields_as, begun_of, Begins, begun_law, begun_
 use Rattle.py_safe.proofs.Scenes.{start_view, moved, FinishGives, gives_back, Reached, reached_goes, Comes, call_comes, got_state, text_comes, over_comes, back}
 
 pub from_nothing : (v : View) → Grows nothing v
-from_nothing v = record { longer = omega arith; natures = λ n less. absurd (omega (arith, less)); marks = λ n less. absurd (omega (arith, less)) }
+from_nothing v = record { longer = omega arith; natures = λ n less. absurd (omega (arith, less)); kinds = λ n less. absurd (omega (arith, less)); marks = λ n less. absurd (omega (arith, less)) }
 
 -- ---- what is kept
 

@@ -22,7 +22,7 @@ use Rattle.py_safe.proofs.Rows.{right_map, value_right}
 use Rattle.py_safe.proofs.Operations.{OpGives, operate_right}
 use Rattle.py_safe.proofs.Names.{There, AnObject, anything, there_right, there_maybe, both, value_fits, list_fits}
 use Rattle.py_safe.proofs.Handing.{IsMarked, marked_more, keywords_right}
-use Rattle.py_safe.proofs.Exceptions.{native_right}
+use Rattle.py_safe.proofs.Exceptions.{tuple_name, native_right}
 
 -- ---- kinds of arguments
 
@@ -82,7 +82,7 @@ module _ (z : Program) (r : Room) where
 
   pub as_tuple_right : (v : View) (line : ℕ) (list : Value) → IsThere v list → RightBy z r r 0 There v (as_tuple (source z) line list)
   as_tuple_right v line list p =
-      value_right z r 0 0 There There v _ _ (omega arith) (native_right z r v line (codes "tuple"))
+      value_right z r 0 0 There There v _ _ (omega arith) (native_right z r v line (codes "tuple") tuple_name)
       (λ c g w a.
       let q : IsThere g list = there_more v g w list p in
       there_right z r op.Call g _ (operate_right z r line op.Call (c ∷ list ∷ []) g (λ u marks ok f. both _ _ (value_fits g c u marks f a) (both _ _ (value_fits g list u marks f q) refl)) (there_maybe g c a, (there_maybe g list q, tt)) tt))

@@ -17,7 +17,7 @@ use Rattle.py_safe.proofs.Rows.{IsNone, reads_right, changes_right, ends_right, 
 use Rattle.py_safe.proofs.Operations.{OpGives, operate_right, yields_right}
 use Rattle.py_safe.proofs.Names.{There, there_right, there_maybe, both, value_fits}
 use Rattle.py_safe.proofs.Passing.{pass_right}
-use Rattle.py_safe.proofs.Exceptions.{thrown_there, again_right, one_of_right, unless_right}
+use Rattle.py_safe.proofs.Exceptions.{thrown_there, again_right, generator_exit, one_of_right, unless_right}
 
 used_there : (v : View) (x : Value) → IsThere v x → EndIs 0 There v (used x)
 used_there v value.Unset p = absurd p.0
@@ -112,7 +112,7 @@ module _ (z : Program) (r : Room) where
 
   thrown_right : (v : View) (line : ℕ) (iterator : Value) (x : ℕ) → IsThere v iterator → IsThrown v x → RightBy z r r 1 Anything v (thrown (source z) line iterator x)
   thrown_right v line iterator x p a =
-      value_right z r 0 1 (λ g b. IsTruth b) Anything v _ _ (omega arith) (one_of_right z r v line (codes "GeneratorExit") x a)
+      value_right z r 0 1 (λ g b. IsTruth b) Anything v _ _ (omega arith) (one_of_right z r v line (codes "GeneratorExit") x generator_exit a)
       (λ b g w t.
       let q : IsThere g iterator = there_more v g w iterator p in
       let e : IsThrown g x = thrown_more v g w x a in

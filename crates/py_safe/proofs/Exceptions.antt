@@ -1,6 +1,7 @@
 -- Rows about exceptions go right: raising, raising again, and telling one class from others.
 use Rattle.std.proofs.Common.{◌≡◌, ℕ, ◌≤◌, List, [], ◌∷◌, Option, Some, true, refl, sym, ap, ◌∙◌, arith}
 use Rattle.std.specs.Prelude.{slice_get, codes}
+use Rattle.nu_text.specs.Names.{is_among, built_in_names}
 use Rattle.nu_value.specs.declared.object.Object.{Object}
 use Rattle.nu_value.specs.declared.object.Object.TheVariants as object
 use Rattle.nu_value.specs.declared.value.Value.{Value}
@@ -60,6 +61,24 @@ pub all_maybe : (v : View) (xs : List Value) → AllThere v xs → AllMaybe v xs
 all_maybe v [] p = tt
 all_maybe v (x ∷ xs) p = (there_maybe v x p.0, all_maybe v xs p.1)
 
+-- names of built-ins that constructs look up
+
+stop_iteration : is_among built_in_names (codes "StopIteration") ≡ true
+unfolding built_in_names
+stop_iteration = refl
+
+assertion_error : is_among built_in_names (codes "AssertionError") ≡ true
+unfolding built_in_names
+assertion_error = refl
+
+pub generator_exit : is_among built_in_names (codes "GeneratorExit") ≡ true
+unfolding built_in_names
+generator_exit = refl
+
+pub tuple_name : is_among built_in_names (codes "tuple") ≡ true
+unfolding built_in_names
+tuple_name = refl
+
 module _ (z : Program) (r : Room) where
   pub again_right : (n : ℕ) (K : Kind) (v : View) (x : ℕ) → IsThrown v x → RightBy z r r n K v (raise_again x)
   again_right n K v x a =
@@ -70,18 +89,18 @@ module _ (z : Program) (r : Room) where
       right_map z r r 0 0 (OpGives op.Match) (λ g b. IsTruth b) v _ (omega arith) (λ g b w y. y.truth tt)
       (operate_right z r line op.Match (value.Obj x ∷ c ∷ []) v (λ w marks ok g. both _ _ (exception_fits v x w marks g a) (both _ _ (value_fits v c w marks g p) refl)) (thrown_there v x a, (there_maybe v c p, tt)) tt)
 
-  pub native_right : (v : View) (line : ℕ) (name : List ℕ) → RightBy z r r 0 There v (operate (source z) line op.Native (text name ∷ []))
-  native_right v line name = there_right z r op.Native v _ (operate_right z r line op.Native (text name ∷ []) v (λ w marks ok g. refl) ((tt, tt), tt) tt)
+  pub native_right : (v : View) (line : ℕ) (name : List ℕ) → is_among built_in_names name ≡ true → RightBy z r r 0 There v (operate (source z) line op.Native (text name ∷ []))
+  native_right v line name e = there_right z r op.Native v _ (operate_right z r line op.Native (text name ∷ []) v (λ w marks ok g. both _ _ e refl) ((tt, tt), tt) tt)
 
-  pub one_of_right : (v : View) (line : ℕ) (class : List ℕ) (x : ℕ) → IsThrown v x → RightBy z r r 0 (λ g b. IsTruth b) v (is_one_of (source z) line class x)
-  one_of_right v line class x a =
-      value_right z r 0 0 There (λ g b. IsTruth b) v _ _ (omega arith) (native_right v line class) (λ c g w p. match_right g line x c (thrown_more v g w x a) p)
+  pub one_of_right : (v : View) (line : ℕ) (class : List ℕ) (x : ℕ) → is_among built_in_names class ≡ true → IsThrown v x → RightBy z r r 0 (λ g b. IsTruth b) v (is_one_of (source z) line class x)
+  one_of_right v line class x e a =
+      value_right z r 0 0 There (λ g b. IsTruth b) v _ _ (omega arith) (native_right v line class e) (λ c g w p. match_right g line x c (thrown_more v g w x a) p)
 
   -- a row and what follows its value, or the StopIteration that it raises
   stopped_right : (n m : ℕ) (K J : Kind) (g : View) (line : ℕ) (more : Value → Rw) (over : ℕ → Rw) (e : End) → n ≤ m → ((x : Value) → K g x → RightBy z r r m J g (more x)) → ((x : ℕ) (g' : View) → Grows g g' → IsThrown g' x → RightBy z r r m J g' (over x)) → EndIs n K g e → RightBy z r r m J g (stopped_or (source z) line more over e)
   stopped_right n m K J g line more over (Next x) le f o y = f x y
   stopped_right n m K J g line more over (Raised x) le f o y =
-      value_right z r 0 m (λ g b. IsTruth b) J g _ _ (omega arith) (one_of_right g line (codes "StopIteration") x y)
+      value_right z r 0 m (λ g b. IsTruth b) J g _ _ (omega arith) (one_of_right g line (codes "StopIteration") x stop_iteration y)
       (λ b g' w t. let a = thrown_more g g' w x y in choose_right z r r m J g' b _ _ t (o x g' w a) (again_right m J g' x a))
   stopped_right n m K J g line more over (Leave i) le f o y = ends_right z r m J g (Leave i) (λ g' w. omega (arith, le, y))
   stopped_right n m K J g line more over (Return x) le f o y = ends_right z r m J g (Return x) (λ g' w. there_more g g' w x y)
@@ -99,7 +118,7 @@ module _ (z : Program) (r : Room) where
 
   pub fails_right : (v : View) (line : ℕ) (texts : List Value) → AllThere v texts → ((w : World) (marks : ℕ → Mark) → WorldLaw (roster z) w marks → Grows v (view w.heap marks) → fit [] (Some kind.Value) w texts ≡ true) → RightBy z r r 0 Anything v (fails (source z) line texts)
   fails_right v line texts a f =
-      value_right z r 0 0 There Anything v _ _ (omega arith) (native_right v line (codes "AssertionError"))
+      value_right z r 0 0 There Anything v _ _ (omega arith) (native_right v line (codes "AssertionError") assertion_error)
       (λ class g w p. value_right z r 0 0 There Anything g _ _ (omega arith)
       (there_right z r op.Call g _ (operate_right z r line op.Call (class ∷ texts) g (λ u marks ok k. both _ _ (value_fits g class u marks k p) (f u marks ok (grows_trans v g (view u.heap marks) w k))) (there_maybe g class p, all_maybe g texts (all_there_more v g w texts a)) tt))
       (λ x g' w' q. raise_right g' line x q))

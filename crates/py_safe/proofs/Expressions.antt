@@ -8,7 +8,7 @@ use Rattle.op_forms.specs.declared.op.Op.TheVariants as op
 use Rattle.op_forms.specs.declared.signature.ArgumentKind.{ArgumentKind}
 use Rattle.op_forms.specs.declared.signature.ArgumentKind.TheVariants as kind
 use Rattle.op_forms.specs.declared.world.World.{World}
-use Rattle.op_forms.specs.Fits.{is_bool, is_of, fit}
+use Rattle.op_forms.specs.Fits.{is_bool, is_of, fit, is_built_in}
 use Rattle.op_forms.specs.Signature.{arguments, further}
 use Rattle.nu_rows.specs.Rows.{Next}
 use Rattle.nu_rows.specs.Words.{choose}
@@ -19,7 +19,7 @@ use Rattle.py_meaning.specs.Expressions.{gives, truth, compared, as_tuple, expre
 use Rattle.py_safe.specs.Rosters.{OfFunction}
 use Rattle.py_safe.specs.Heaps.{Mark, Open, Keywords, View, view, AList, ADict, Grows, IsThere, AllThere}
 use Rattle.py_safe.specs.Rules.{IsTruth, WorldLaw}
-use Rattle.py_safe.specs.Constructs.{Room, IsConstant, IsText, IsTested, Serves, TakesTwo, MayNegate, LawfulExpression, LawfulOperands, LawfulLinks, LawfulItems, LawfulEntries, LawfulArguments, LawfulKeywords}
+use Rattle.py_safe.specs.Constructs.{Room, IsConstant, IsText, IsTested, IsBuiltInName, Serves, TakesTwo, MayNegate, LawfulExpression, LawfulOperands, LawfulLinks, LawfulItems, LawfulEntries, LawfulArguments, LawfulKeywords}
 use Rattle.py_safe.proofs.Right.{Program, source, roster, Kind, Anything, RightBy}
 use Rattle.py_safe.proofs.Growth.{grows_refl, grows_trans, there_more, all_there_more}
 use Rattle.py_safe.proofs.Rows.{ends_right, right_map, value_right, choose_right}
@@ -36,6 +36,7 @@ use Rattle.py_safe.proofs.Functions.{AllNamed, defaults_right, bare_function_rig
 pub record Gives (x : syntax.Expression) (v : View) (y : Value) : Type 0 where
   pub there : IsThere v y
   pub text : IsText x → is_text y ≡ true
+  pub name : IsBuiltInName x → is_built_in y ≡ true
   pub truth : IsTested x → IsTruth y
 
 truth_is : (x : Value) → IsTruth x → is_bool x ≡ true
@@ -49,17 +50,22 @@ truth_is (value.Obj n) t = absurd t
 -- it fits where an operation takes it
 served : (k : ArgumentKind) (x : syntax.Expression) (v : View) (y : Value) → Serves k x → Gives x v y → (w : World) (marks : ℕ → Mark) → Grows v (view w.heap marks) → is_of k w y ≡ true
 served kind.Name x v y s i w marks g = i.text s
-served kind.BuiltinName x v y s i w marks g = i.text s
+served kind.BuiltinName x v y s i w marks g = i.name s
 served kind.Value x v y s i w marks g = value_fits v y w marks g i.there
 served kind.Bool x v y s i w marks g = truth_is y (i.truth s)
 served other x v y s i w marks g = absurd s
 
+name_is_text : (x : syntax.Expression) → IsBuiltInName x → IsText x
+name_is_text (syntax.Constant (value.Str s)) e = tt
+name_is_text (syntax.Constant y) e = absurd (cc)
+name_is_text x e = absurd e
+
 constant_gives : (y : Value) (v : View) → IsConstant y → Gives (syntax.Constant y) v y
 constant_gives value.Unset v c = absurd c
-constant_gives value.None v c = record { there = (tt, tt); text = λ t. absurd t; truth = λ t. absurd t }
-constant_gives (value.Bool b) v c = record { there = (tt, tt); text = λ t. absurd t; truth = λ t. absurd t }
-constant_gives (value.Int i) v c = record { there = (tt, tt); text = λ t. absurd t; truth = λ t. absurd t }
-constant_gives (value.Str s) v c = record { there = (tt, tt); text = λ t. refl; truth = λ t. absurd t }
+constant_gives value.None v c = record { there = (tt, tt); text = λ t. absurd t; name = λ e. absurd (cc); truth = λ t. absurd t }
+constant_gives (value.Bool b) v c = record { there = (tt, tt); text = λ t. absurd t; name = λ e. absurd (cc); truth = λ t. absurd t }
+constant_gives (value.Int i) v c = record { there = (tt, tt); text = λ t. absurd t; name = λ e. absurd (cc); truth = λ t. absurd t }
+constant_gives (value.Str s) v c = record { there = (tt, tt); text = λ t. refl; name = λ e. e; truth = λ t. absurd t }
 constant_gives (value.Obj n) v c = absurd c
 
 -- no lawful operands are those of a function's making, which is no operator
@@ -110,7 +116,7 @@ module _ (z : Program) (r : Room) where
 
   -- an expression that is no text and no test gives a value
   plain : (x : syntax.Expression) (v : View) (row : Rw) → (IsText x → ⊥) → (IsTested x → ⊥) → RightBy z r r 0 There v row → RightBy z r r 0 (Gives x) v row
-  plain x v row t u y = right_map z r r 0 0 There (Gives x) v row (omega arith) (λ g i w p. record { there = p; text = λ a. absurd (t a); truth = λ a. absurd (u a) }) y
+  plain x v row t u y = right_map z r r 0 0 There (Gives x) v row (omega arith) (λ g i w p. record { there = p; text = λ a. absurd (t a); name = λ a. absurd (t (name_is_text x a)); truth = λ a. absurd (u a) }) y
 
   mutual
     pub expression_gives : (x : syntax.Expression) → LawfulExpression (roster z) r x → (v : View) → RightBy z r r 0 (Gives x) v (expression (source z) x)
@@ -118,7 +124,7 @@ module _ (z : Program) (r : Room) where
     expression_gives (syntax.Name line home) p v = plain (syntax.Name line home) v _ (λ t. t) (λ t. t) (load_right z r v line home p)
     expression_gives (syntax.Operation line o xs) p v =
         each_right xs (arguments o) (further o) p v 0 (Gives (syntax.Operation line o xs)) (λ ys. operate (source z) line o ys)
-        (λ ys g w a f. right_map z r r 0 0 (OpGives o) (Gives (syntax.Operation line o xs)) g _ (omega arith) (λ more y m i. record { there = i.there; text = λ t. absurd t; truth = i.truth })
+        (λ ys g w a f. right_map z r r 0 0 (OpGives o) (Gives (syntax.Operation line o xs)) g _ (omega arith) (λ more y m i. record { there = i.there; text = λ t. absurd t; name = λ t. absurd t; truth = i.truth })
         (operate_right z r line o ys g f (all_maybe g ys a) (operands_no_func z r o xs p)))
     expression_gives (syntax.Junction line any x y) p v =
         plain (syntax.Junction line any x y) v _ (λ t. t) (λ t. t)

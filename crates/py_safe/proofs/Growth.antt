@@ -7,16 +7,17 @@ use Rattle.nu_value.specs.declared.object.Object.{Object}
 use Rattle.nu_value.specs.declared.object.Object.TheVariants as object
 use Rattle.nu_value.specs.declared.value.Value.{Value}
 use Rattle.nu_value.specs.declared.value.Value.TheVariants as value
-use Rattle.nu_value.specs.Names.{NameList}
-use Rattle.nu_value.specs.Pairs.{PairList}
 use Rattle.op_forms.specs.declared.end.After.{After}
 use Rattle.op_forms.specs.declared.end.After.TheVariants as behind
 use Rattle.op_forms.specs.Fits.{is_in}
-use Rattle.op_forms.specs.Sound.{Sort, ADict as DictSort, AFunction as FunctionSort, AClass as ClassSort, AGenerator as GeneratorSort, ACell as CellSort, ASpace as SpaceSort, AnException, Another as OtherSort, sort_of, IsA, IsIn, MayBeIn, AllIn, IsCell, AreCells, NamesIn, PairsIn, BaseIn, CauseIn, ObjectIn}
+use Rattle.op_forms.specs.Sound.{Sort, ATuple as TupleSort, AList as ListSort, ADict as DictSort, ARange as RangeSort, AFunction as FunctionSort, AClass as ClassSort, AGenerator as GeneratorSort, AView as ViewSort, ACell as CellSort, ASpace as SpaceSort, AnException, Another as OtherSort, sort_of, IsA, IsIn, AllIn, IsCell, AreCells, ObjectIn, SoundHeap}
+use Rattle.op_forms.specs.Parts.{OrUnset}
+use Rattle.op_forms.specs.Right.{Grows as HeapGrows}
+use Rattle.op_forms.proofs.Objects as objects
 use Rattle.nu_rows.specs.Rows.{How, Send, Throw}
 use Rattle.nu_calls.specs.Calls.{Pause}
 use Rattle.py_meaning.specs.Frames.{Frame, at}
-use Rattle.py_safe.specs.Heaps.{Mark, View, Nature, ADict, AFunction, AClass, AGenerator, ACell, ASpace, AnError, Another, nature_of, Grows, IsOpen, AllOpen, NamesOpen, PairsOpen, IfAnyOpen, ObjectOpen, IsThere, AllThere, IsThrown}
+use Rattle.py_safe.specs.Heaps.{Mark, View, Nature, ATuple, AList, ADict, ARange, AFunction, AClass, AGenerator, AView, ACell, ASpace, AnError, Another, nature_of, Grows, IsOpen, AllOpen, ObjectOpen, IsThere, AllThere, IsThrown}
 use Rattle.py_safe.specs.Rules.{IsOf, AfterLaw}
 use Rattle.py_safe.specs.Constructs.{Room}
 use Rattle.py_safe.proofs.Right.{Program, Tables, MayBeThere, AllMaybe, FrameLaw, IsKept, HowIs}
@@ -81,14 +82,18 @@ Known Another = ⊥
 Known other = Unit {0}
 
 abbrev pub sort_in : Nature → Sort
+sort_in ATuple = TupleSort
+sort_in AList = ListSort
 sort_in ADict = DictSort
+sort_in ARange = RangeSort
 sort_in (AFunction code) = FunctionSort
 sort_in AClass = ClassSort
 sort_in (AGenerator code) = GeneratorSort
+sort_in AView = ViewSort
 sort_in ACell = CellSort
 sort_in ASpace = SpaceSort
 sort_in AnError = AnException
-sort_in other = OtherSort
+sort_in Another = OtherSort
 
 pub sort_of_nature : (o : Option Object) → sort_of o ≡ sort_in (nature_of o)
 sort_of_nature (Some (object.Dict pairs)) = refl
@@ -107,19 +112,23 @@ of_sort h n s k e = record { there = known_within h n s k e; sort = sort_of_natu
 -- ---- growth
 
 pub grows_refl : (v : View) → Grows v v
-grows_refl v = record { longer = omega arith; natures = λ n there. refl; marks = λ n there. refl }
+grows_refl v = record { longer = omega arith; natures = λ n there. refl; kinds = λ n there. refl; marks = λ n there. refl }
 
 pub grows_trans : (a b c : View) → Grows a b → Grows b c → Grows a c
 grows_trans a b c f g =
     record {
       longer = omega (arith, f.longer, g.longer);
       natures = λ n there. g.natures n (omega (arith, f.longer)) ∙ f.natures n there;
+      kinds = λ n there. g.kinds n (omega (arith, f.longer)) ∙ f.kinds n there;
       marks = λ n there. g.marks n (omega (arith, f.longer)) ∙ f.marks n there;
     }
 
 pub grows_sorts : (v more : View) → Grows v more → (n : ℕ) → n < length v.heap → sort_of (slice_get more.heap n) ≡ sort_of (slice_get v.heap n)
 grows_sorts v more g n there =
     sort_of_nature (slice_get more.heap n) ∙ ap sort_in (g.natures n there) ∙ sym (sort_of_nature (slice_get v.heap n))
+
+heap_grows : (v more : View) → Grows v more → HeapGrows v.heap more.heap
+heap_grows v more g = record { longer = g.longer; sorts = grows_sorts v more g; kinds = g.kinds }
 
 -- ---- what is known of a value stays known
 
@@ -134,36 +143,13 @@ in_more v more g (value.Int z) p = tt
 in_more v more g (value.Str t) p = tt
 in_more v more g (value.Obj n) p = omega (arith, g.longer)
 
-pub may_be_in_more : (v more : View) → Grows v more → (x : Value) → MayBeIn v.heap x → MayBeIn more.heap x
-may_be_in_more v more g value.Unset p = tt
-may_be_in_more v more g value.None p = tt
-may_be_in_more v more g (value.Bool b) p = tt
-may_be_in_more v more g (value.Int z) p = tt
-may_be_in_more v more g (value.Str t) p = tt
-may_be_in_more v more g (value.Obj n) p = omega (arith, g.longer)
-
 pub all_in_more : (v more : View) → Grows v more → (xs : List Value) → AllIn v.heap xs → AllIn more.heap xs
 all_in_more v more g [] p = tt
 all_in_more v more g (x ∷ xs) p = (in_more v more g x p.0, all_in_more v more g xs p.1)
 
-may_be_open : (v more : View) → Grows v more → (x : Value) → MayBeIn v.heap x → IsOpen v.marks x → IsOpen more.marks x
-may_be_open v more g value.Unset p q = tt
-may_be_open v more g value.None p q = tt
-may_be_open v more g (value.Bool b) p q = tt
-may_be_open v more g (value.Int z) p q = tt
-may_be_open v more g (value.Str t) p q = tt
-may_be_open v more g (value.Obj n) p q = g.marks n p ∙ q
-
-pub may_be : (h : List Object) (x : Value) → IsIn h x → MayBeIn h x
-may_be h value.Unset p = tt
-may_be h value.None p = tt
-may_be h (value.Bool b) p = tt
-may_be h (value.Int z) p = tt
-may_be h (value.Str t) p = tt
-may_be h (value.Obj n) p = p
-
 pub open_more : (v more : View) → Grows v more → (x : Value) → IsIn v.heap x → IsOpen v.marks x → IsOpen more.marks x
-open_more v more g x p q = may_be_open v more g x (may_be v.heap x p) q
+open_more v more g (value.Obj n) p q = g.marks n p ∙ q
+open_more v more g x p q = tt
 
 pub there_more : (v more : View) → Grows v more → (x : Value) → IsThere v x → IsThere more x
 there_more v more g x p = (in_more v more g x p.0, open_more v more g x p.0 p.1)
@@ -281,84 +267,9 @@ is_in_true h (value.Obj n) p = grind (arith, nat_tests)
 
 -- ---- objects of a greater view
 
-names_more : (v more : View) → Grows v more → (ps : NameList) → NamesIn v.heap ps → NamesIn more.heap ps
-names_more v more g [] p = tt
-names_more v more g (q ∷ ps) p = (in_more v more g q.1 p.0, p.1, names_more v more g ps p.2)
-
-pairs_more : (v more : View) → Grows v more → (ps : PairList) → PairsIn v.heap ps → PairsIn more.heap ps
-pairs_more v more g [] p = tt
-pairs_more v more g (q ∷ ps) p = (in_more v more g q.1 p.0, in_more v more g q.2 p.1, p.2, pairs_more v more g ps p.3)
-
-base_more : (v more : View) → Grows v more → (n : ℕ) (native : Bool) (b : Option ℕ) → BaseIn v.heap n native b → BaseIn more.heap n native b
-base_more v more g n native None p = tt
-base_more v more g n true (Some b) p = is_a_more v more g b _ p
-base_more v more g n false (Some b) p = (is_a_more v more g b _ p.0, p.1)
-
-cause_more : (v more : View) → Grows v more → (c : Option ℕ) → CauseIn v.heap c → CauseIn more.heap c
-cause_more v more g None p = tt
-cause_more v more g (Some c) p = is_a_more v more g c _ p
-
-pub object_more : (codes : ℕ) (v more : View) → Grows v more → (n : ℕ) (o : Object) → ObjectIn codes v.heap n o → ObjectIn codes more.heap n o
-object_more codes v more g n (object.Tuple items) p = all_in_more v more g items p
-object_more codes v more g n (object.List items) p = all_in_more v more g items p
-object_more codes v more g n (object.Dict pairs) p = pairs_more v more g pairs p
-object_more codes v more g n (object.Range start stop step) p = p
-object_more codes v more g n (object.Function code defaults keywords cells) p =
-    (p.0, all_in_more v more g defaults p.1, names_more v more g keywords p.2, are_cells_more v more g cells p.3)
-object_more codes v more g n (object.Method receiver function) p = (in_more v more g receiver p.0, is_a_more v more g function _ p.1)
-object_more codes v more g n (object.Class name base own native) p = (base_more v more g n native base p.0, names_more v more g own p.1)
-object_more codes v more g n (object.Instance class fields) p = (is_a_more v more g class _ p.0, names_more v more g fields p.1)
-object_more codes v more g n (object.Generator code state given cells) p =
-    (p.0, all_in_more v more g given p.1, are_cells_more v more g cells p.2)
-object_more codes v more g n (object.Iterator over place size over_now) p = in_more v more g over p
-object_more codes v more g n (object.View dict kind) p = is_a_more v more g dict _ p
-object_more codes v more g n (object.Cell x) p = may_be_in_more v more g x p
-object_more codes v more g n (object.Space names) p = names_more v more g names p
-object_more codes v more g n (object.Exception class args entries fields cause) p =
-    (is_a_more v more g class _ p.0, all_in_more v more g args p.1, names_more v more g fields p.2, cause_more v more g cause p.3)
-object_more codes v more g n (object.Builtin name receiver) p = may_be_in_more v more g receiver p
-object_more codes v more g n (object.Trace exception) p = is_a_more v more g exception _ p
-
-all_open_more : (v more : View) → Grows v more → (xs : List Value) → AllIn v.heap xs → AllOpen v.marks xs → AllOpen more.marks xs
-all_open_more v more g [] p q = tt
-all_open_more v more g (x ∷ xs) p q = (open_more v more g x p.0 q.0, all_open_more v more g xs p.1 q.1)
-
-names_open_more : (v more : View) → Grows v more → (ps : NameList) → NamesIn v.heap ps → NamesOpen v.marks ps → NamesOpen more.marks ps
-names_open_more v more g [] p q = tt
-names_open_more v more g (x ∷ ps) p q = (open_more v more g x.1 p.0 q.0, names_open_more v more g ps p.2 q.1)
-
-pairs_open_more : (v more : View) → Grows v more → (ps : PairList) → PairsIn v.heap ps → PairsOpen v.marks ps → PairsOpen more.marks ps
-pairs_open_more v more g [] p q = tt
-pairs_open_more v more g (x ∷ ps) p q =
-    (open_more v more g x.1 p.0 q.0, open_more v more g x.2 p.1 q.1, pairs_open_more v more g ps p.3 q.2)
-
-base_open_more : (v more : View) → Grows v more → (n : ℕ) (native : Bool) (b : Option ℕ) → BaseIn v.heap n native b → IfAnyOpen v.marks b → IfAnyOpen more.marks b
-base_open_more v more g n native None p q = tt
-base_open_more v more g n true (Some b) p q = g.marks b p.there ∙ q
-base_open_more v more g n false (Some b) p q = g.marks b p.0.there ∙ q
-
-cause_open_more : (v more : View) → Grows v more → (c : Option ℕ) → CauseIn v.heap c → IfAnyOpen v.marks c → IfAnyOpen more.marks c
-cause_open_more v more g None p q = tt
-cause_open_more v more g (Some c) p q = g.marks c p.there ∙ q
+pub object_more : (codes : ℕ) (v more : View) → SoundHeap codes v.heap → Grows v more → (n : ℕ) (o : Object) → ObjectIn codes v.heap n o → ObjectIn codes more.heap n o
+object_more codes v more s g n o p = objects.object_more codes v.heap more.heap s (heap_grows v more g) n o p
 
 pub object_open_more : (codes : ℕ) (v more : View) → Grows v more → (n : ℕ) (o : Object) → ObjectIn codes v.heap n o → ObjectOpen v.marks o → ObjectOpen more.marks o
-object_open_more codes v more g n (object.Tuple items) p q = all_open_more v more g items p q
-object_open_more codes v more g n (object.List items) p q = all_open_more v more g items p q
-object_open_more codes v more g n (object.Dict pairs) p q = pairs_open_more v more g pairs p q
-object_open_more codes v more g n (object.Range start stop step) p q = tt
-object_open_more codes v more g n (object.Function code defaults keywords cells) p q =
-    (all_open_more v more g defaults p.1 q.0, names_open_more v more g keywords p.2 q.1, cells_open v more g cells p.3 q.2)
-object_open_more codes v more g n (object.Method receiver function) p q = (open_more v more g receiver p.0 q.0, g.marks function p.1.there ∙ q.1)
-object_open_more codes v more g n (object.Class name base own native) p q =
-    (base_open_more v more g n native base p.0 q.0, names_open_more v more g own p.1 q.1)
-object_open_more codes v more g n (object.Instance class fields) p q = (g.marks class p.0.there ∙ q.0, names_open_more v more g fields p.1 q.1)
-object_open_more codes v more g n (object.Generator code state given cells) p q =
-    (all_open_more v more g given p.1 q.0, cells_open v more g cells p.2 q.1)
-object_open_more codes v more g n (object.Iterator over place size over_now) p q = open_more v more g over p q
-object_open_more codes v more g n (object.View dict kind) p q = g.marks dict p.there ∙ q
-object_open_more codes v more g n (object.Cell x) p q = may_be_open v more g x p q
-object_open_more codes v more g n (object.Space names) p q = names_open_more v more g names p q
-object_open_more codes v more g n (object.Exception class args entries fields cause) p q =
-    (g.marks class p.0.there ∙ q.0, all_open_more v more g args p.1 q.1, names_open_more v more g fields p.2 q.2, cause_open_more v more g cause p.3 q.3)
-object_open_more codes v more g n (object.Builtin name receiver) p q = may_be_open v more g receiver p q
-object_open_more codes v more g n (object.Trace exception) p q = g.marks exception p.there ∙ q
+object_open_more codes v more g n o p q =
+    objects.parts_from (IsIn v.heap) (IsOpen v.marks) (IsOpen more.marks) (open_more v more g) o p.0 q

@@ -152,7 +152,7 @@ module _ (z : Program) where
     dict_met =
         fitting_met z tabs M agree b le r (IsMarked Keywords) op.Dict [] marks s law refl
         (elim (z.law.dict s.around.world) [
-          | inl made ↦ made_met (object.Dict []) Keywords (z.rules.apply op.Dict s.around.world []) made tt tt tt (λ e. refl) tt
+          | inl made ↦ made_met (object.Dict []) Keywords (z.rules.apply op.Dict s.around.world []) made (tt, (tt, tt)) tt tt (λ e. refl) tt
           | inr stops ↦ stopped_met (IsMarked Keywords) (z.rules.apply op.Dict s.around.world []) stops
         ])
 

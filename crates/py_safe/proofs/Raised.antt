@@ -15,7 +15,8 @@ use Rattle.py_safe.specs.Rosters.{Roster}
 use Rattle.py_safe.specs.Heaps.{Mark, Open, view, nature_of, Grows, KeepsGenerators, AllThere, IsThrown}
 use Rattle.py_safe.specs.Rules.{MayRaise, WorldLaw}
 use Rattle.py_safe.proofs.Growth.{get_end, grows_refl, all_in, all_open}
-use Rattle.py_safe.proofs.Worlds.{grows_end, grows_set, native_class, no_native, plain_open, open_keywords, world_end, world_set, keeps_refl, keeps_end, keeps_set}
+use Rattle.nu_value.specs.Keyed.{object_kind}
+use Rattle.py_safe.proofs.Worlds.{IsLike, grows_end, grows_set, native_class, no_native, plain_open, open_keywords, world_end, world_set, keeps_refl, keeps_end, keeps_set}
 
 -- objects after those of a world
 pub record Follows (c : Roster) (w : World) (marks : ℕ → Mark) (h : List Object) : Type 0 where
@@ -35,7 +36,7 @@ put_follows c w marks l n entry (Some (object.Exception class args entries field
     let there : n < length w.heap = slice_get_within w.heap n y e in
     let a : IsA w.heap n AnException = record { there = there; sort = ap sort_of e } in
     let behind : length native_classes ≤ n = no_native (length w.codes) w.heap l.sound.heap n AnException a (λ f. absurd (cc)) in
-    let same : nature_of (Some x) ≡ nature_of (slice_get w.heap n) = sym (ap nature_of e) in
+    let same : IsLike w.heap n x = record { nature = sym (ap nature_of e); kind = λ n. sym (ap (object_kind n) e) } in
     record {
       law = world_set c w marks l n x there behind same (l.sound.heap.objects n y e) (l.law.opens n y e) (l.law.bodies n y e) (open_keywords marks n x (plain_open c (view w.heap marks) l.law n AnException tt a));
       grows = grows_set w.heap marks n x same;
@@ -58,7 +59,7 @@ new_exception c w marks l n args a m p =
     let x : Object = object.Exception n args [] [] None in
     record {
       follows = record {
-        law = world_end c w marks l x (a, all_in (view w.heap marks) args p, tt, tt) (m, all_open (view w.heap marks) args p, tt, tt) tt;
+        law = world_end c w marks l x ((a.there, all_in (view w.heap marks) args p, tt, tt), (a, tt, tt)) (m, all_open (view w.heap marks) args p, tt, tt) tt;
         grows = grows_end w.heap marks x;
         generators = keeps_end w.heap x tt;
       };

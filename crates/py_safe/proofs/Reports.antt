@@ -14,7 +14,8 @@ use Rattle.op_forms.specs.declared.end.OpEnd.{OpEnd}
 use Rattle.op_forms.specs.declared.end.OpEnd.TheVariants as opend
 use Rattle.op_forms.specs.declared.world.World.{World}
 use Rattle.op_forms.specs.Answers.{names_of}
-use Rattle.op_forms.specs.Sound.{NamesIn, ObjectIn}
+use Rattle.op_forms.specs.Parts.{NamesOf}
+use Rattle.op_forms.specs.Sound.{IsIn, ObjectIn}
 use Rattle.nu_rows.specs.Rows.{End, Next, Leave, Raised, Return, Stopped, Undefined, Step, Second, Begin, Res, Spent, Paused, Ended, shift, after, left_by, entered, run, does}
 use Rattle.nu_rows.specs.Words.{ends_with}
 use Rattle.nu_calls.specs.Surroundings.{Scene, scene, with_heap}
@@ -87,20 +88,20 @@ result_reply v Unsaid e = absurd e
 -- ---- the function that gives the text
 
 -- the value of a name is there
-name_at : (h : List Object) (marks : ℕ → Mark) (names : NameList) (place : ℕ) (p : List ℕ × Value) → NamesIn h names → NamesOpen marks names → slice_get names place ≡ Some p → IsThere (view h marks) p.1
+name_at : (h : List Object) (marks : ℕ → Mark) (names : NameList) (place : ℕ) (p : List ℕ × Value) → NamesOf (IsIn h) names → NamesOpen marks names → slice_get names place ≡ Some p → IsThere (view h marks) p.1
 name_at h marks [] place p a b e = absurd (cc)
 name_at h marks (q ∷ names) zero p a b e = let same : q ≡ p = first q p e in subst (λ x. IsThere (view h marks) x.1) same (a.0, b.0)
   where
     first : (q p : List ℕ × Value) → Some q ≡ Some p → q ≡ p
     first q p e = cc
-name_at h marks (q ∷ names) (suc place) p a b e = name_at h marks names place p a.2 b.1 e
+name_at h marks (q ∷ names) (suc place) p a b e = name_at h marks names place p a.1 b.1 e
 
-name_found : (h : List Object) (marks : ℕ → Mark) (names : NameList) (place : ℕ) (o : Option (List ℕ × Value)) → slice_get names place ≡ o → NamesIn h names → NamesOpen marks names → (x : Value) → option_map (λ p. p.1) o ≡ Some x → IsThere (view h marks) x
+name_found : (h : List Object) (marks : ℕ → Mark) (names : NameList) (place : ℕ) (o : Option (List ℕ × Value)) → slice_get names place ≡ o → NamesOf (IsIn h) names → NamesOpen marks names → (x : Value) → option_map (λ p. p.1) o ≡ Some x → IsThere (view h marks) x
 name_found h marks names place None e a b x is = absurd (cc)
 name_found h marks names place (Some p) e a b x is = let same : p.1 ≡ x = cc in subst (λ y. IsThere (view h marks) y) same (name_at h marks names place p a b e)
 
-names_in : (codes : ℕ) (h : List Object) (marks : ℕ → Mark) (n : ℕ) (o : Option Object) → slice_get h n ≡ o → ((x : Object) → slice_get h n ≡ Some x → ObjectIn codes h n x) → ((x : Object) → slice_get h n ≡ Some x → ObjectOpen marks x) → NamesIn h (names_of o) × NamesOpen marks (names_of o)
-names_in codes h marks n (Some (object.Space names)) e a b = (a (object.Space names) e, b (object.Space names) e)
+names_in : (codes : ℕ) (h : List Object) (marks : ℕ → Mark) (n : ℕ) (o : Option Object) → slice_get h n ≡ o → ((x : Object) → slice_get h n ≡ Some x → ObjectIn codes h n x) → ((x : Object) → slice_get h n ≡ Some x → ObjectOpen marks x) → NamesOf (IsIn h) (names_of o) × NamesOpen marks (names_of o)
+names_in codes h marks n (Some (object.Space names)) e a b = ((a (object.Space names) e).0, b (object.Space names) e)
 names_in codes h marks n other e a b = (tt, tt)
 
 report_there : (z : Program) (w : World) (marks : ℕ → Mark) → WorldLaw (roster z) w marks → (x : Value) → report_function w ≡ Some x → IsThere (view w.heap marks) x

@@ -11,6 +11,7 @@ use Rattle.nu_value.specs.declared.object.Object.{Object}
 use Rattle.nu_value.specs.declared.object.Object.TheVariants as object
 use Rattle.nu_value.specs.declared.natives.Native.{Native}
 use Rattle.nu_value.specs.declared.value.Value.{Value}
+use Rattle.nu_value.specs.Keyed.{object_kind}
 use Rattle.nu_value.specs.Natives.{native_classes, natives, class_of}
 use Rattle.op_forms.specs.declared.world.World.{World}
 use Rattle.op_forms.specs.Fits.{are_keywords}
@@ -31,6 +32,7 @@ grows_by h marks more o agree =
     record {
       longer = omega (arith, length-append h (o ∷ []));
       natures = λ n there. ap nature_of (before_end h (o ∷ []) n there);
+      kinds = λ n there. ap (object_kind n) (before_end h (o ∷ []) n there);
       marks = agree;
     }
 
@@ -45,17 +47,27 @@ below_marked marks k m n small = marked_other marks k m n (λ e. omega arith)
 pub grows_marked : (h : List Object) (marks : ℕ → Mark) (o : Object) (m : Mark) → Grows (view h marks) (view (h ++ o ∷ []) (marked marks (length h) m))
 grows_marked h marks o m = grows_by h marks (marked marks (length h) m) o (below_marked marks (length h) m)
 
-pub set_nature : (h : List Object) (i : ℕ) (o : Object) → nature_of (Some o) ≡ nature_of (slice_get h i) → (n : ℕ) → nature_of (slice_get (slice_set h i o) n) ≡ nature_of (slice_get h n)
-set_nature [] i o e n = refl
-set_nature (x ∷ h) zero o e zero = e
-set_nature (x ∷ h) zero o e (suc n) = refl
-set_nature (x ∷ h) (suc i) o e zero = refl
-set_nature (x ∷ h) (suc i) o e (suc n) = set_nature h i o e n
+set_stays : {A : Type 0} (f : Option Object → A) (h : List Object) (i : ℕ) (o : Object) → f (Some o) ≡ f (slice_get h i) → (n : ℕ) → f (slice_get (slice_set h i o) n) ≡ f (slice_get h n)
+set_stays f [] i o e n = refl
+set_stays f (x ∷ h) zero o e zero = e
+set_stays f (x ∷ h) zero o e (suc n) = refl
+set_stays f (x ∷ h) (suc i) o e zero = refl
+set_stays f (x ∷ h) (suc i) o e (suc n) = set_stays f h i o e n
+
+-- an object that may stand in place of another
+pub record IsLike (h : List Object) (i : ℕ) (o : Object) : Type 0 where
+  pub nature : nature_of (Some o) ≡ nature_of (slice_get h i)
+  pub kind : (n : ℕ) → object_kind n (Some o) ≡ object_kind n (slice_get h i)
 
 -- an object in place of one of its nature
-pub grows_set : (h : List Object) (marks : ℕ → Mark) (i : ℕ) (o : Object) → nature_of (Some o) ≡ nature_of (slice_get h i) → Grows (view h marks) (view (slice_set h i o) marks)
+pub grows_set : (h : List Object) (marks : ℕ → Mark) (i : ℕ) (o : Object) → IsLike h i o → Grows (view h marks) (view (slice_set h i o) marks)
 grows_set h marks i o e =
-    record { longer = omega (arith, length-set h i o); natures = λ n there. set_nature h i o e n; marks = λ n there. refl }
+    record {
+      longer = omega (arith, length-set h i o);
+      natures = λ n there. set_stays nature_of h i o e.nature n;
+      kinds = λ n there. set_stays (object_kind n) h i o (e.kind n) n;
+      marks = λ n there. refl;
+    }
 
 -- ---- sound heaps
 
@@ -87,13 +99,13 @@ end_sound codes h o s new =
     record {
       objects = λ n x e.
           elim (end_cases h o n x e) [
-            | inl p ↦ subst (λ i. ObjectIn codes (h ++ o ∷ []) i x) (sym p.0) (subst (λ y. ObjectIn codes (h ++ o ∷ []) (length h) y) (sym p.1) (object_more codes v more g (length h) o new))
-            | inr q ↦ object_more codes v more g n x (s.objects n x q)
+            | inl p ↦ subst (λ i. ObjectIn codes (h ++ o ∷ []) i x) (sym p.0) (subst (λ y. ObjectIn codes (h ++ o ∷ []) (length h) y) (sym p.1) (object_more codes v more s g (length h) o new))
+            | inr q ↦ object_more codes v more s g n x (s.objects n x q)
           ];
       natives = λ n small. before_end h (o ∷ []) n (omega (arith, many codes h s)) ∙ s.natives n small;
     }
 
-set_sound : (codes : ℕ) (h : List Object) (i : ℕ) (o : Object) → SoundHeap codes h → length native_classes ≤ i → nature_of (Some o) ≡ nature_of (slice_get h i) → ObjectIn codes h i o → SoundHeap codes (slice_set h i o)
+set_sound : (codes : ℕ) (h : List Object) (i : ℕ) (o : Object) → SoundHeap codes h → length native_classes ≤ i → IsLike h i o → ObjectIn codes h i o → SoundHeap codes (slice_set h i o)
 set_sound codes h i o s behind e new =
     let v : View = view h (λ n. Open) in
     let more : View = view (slice_set h i o) (λ n. Open) in
@@ -101,8 +113,8 @@ set_sound codes h i o s behind e new =
     record {
       objects = λ n x at.
           elim (set_cases h i o n x at) [
-            | inl p ↦ subst (λ j. ObjectIn codes (slice_set h i o) j x) (sym p.0) (subst (λ y. ObjectIn codes (slice_set h i o) i y) (sym p.1) (object_more codes v more g i o new))
-            | inr q ↦ object_more codes v more g n x (s.objects n x q)
+            | inl p ↦ subst (λ j. ObjectIn codes (slice_set h i o) j x) (sym p.0) (subst (λ y. ObjectIn codes (slice_set h i o) i y) (sym p.1) (object_more codes v more s g i o new))
+            | inr q ↦ object_more codes v more s g n x (s.objects n x q)
           ];
       natives = λ n small. set_other h i o n (λ is. omega arith) ∙ s.natives n small;
     }
@@ -240,12 +252,12 @@ world_marked c w marks l o m new opens body keywords =
     }
 
 -- one object in place of another
-pub world_set : (c : Roster) (w : World) (marks : ℕ → Mark) → WorldLaw c w marks → (i : ℕ) (o : Object) → i < length w.heap → length native_classes ≤ i → nature_of (Some o) ≡ nature_of (slice_get w.heap i) → ObjectIn (length w.codes) w.heap i o → ObjectOpen marks o → BodyLaw c (marks i) o → (marks i ≡ Keywords → are_keywords (Some o) ≡ true) → WorldLaw c (world_with w (slice_set w.heap i o)) marks
+pub world_set : (c : Roster) (w : World) (marks : ℕ → Mark) → WorldLaw c w marks → (i : ℕ) (o : Object) → i < length w.heap → length native_classes ≤ i → IsLike w.heap i o → ObjectIn (length w.codes) w.heap i o → ObjectOpen marks o → BodyLaw c (marks i) o → (marks i ≡ Keywords → are_keywords (Some o) ≡ true) → WorldLaw c (world_with w (slice_set w.heap i o)) marks
 world_set c w marks l i o there behind e new opens body keywords =
     let g : Grows (view w.heap marks) (view (slice_set w.heap i o) marks) = grows_set w.heap marks i o e in
     record {
       sound = grown_sound w (slice_set w.heap i o) marks marks l.sound g (set_sound (length w.codes) w.heap i o l.sound.heap behind e new);
-      law = law_set c w.heap marks i o l.law there e opens body keywords;
+      law = law_set c w.heap marks i o l.law there e.nature opens body keywords;
       codes = l.codes;
     }
 
@@ -305,7 +317,7 @@ state_by c w marks l g state (Some (object.Generator code old given cells)) e =
     let there : g < length w.heap = slice_get_within w.heap g y e in
     let a : IsA w.heap g GeneratorSort = record { there = there; sort = ap sort_of e } in
     let behind : length native_classes ≤ g = no_native (length w.codes) w.heap l.sound.heap g GeneratorSort a (λ f. absurd (cc)) in
-    let n : nature_of (Some x) ≡ nature_of (slice_get w.heap g) = sym (ap nature_of e) in
+    let n : IsLike w.heap g x = record { nature = sym (ap nature_of e); kind = λ n. sym (ap (object_kind n) e) } in
     record {
       law = world_set c w marks l g x there behind n (l.sound.heap.objects g y e) (l.law.opens g y e) (l.law.bodies g y e) (open_keywords marks g x (plain_open c (view w.heap marks) l.law g GeneratorSort tt a));
       grows = grows_set w.heap marks g x n;

@@ -7,6 +7,7 @@ use Rattle.op_forms.specs.declared.op.Op.{Op}
 use Rattle.op_forms.specs.declared.op.Op.TheVariants as op
 use Rattle.op_forms.specs.declared.signature.ArgumentKind.{ArgumentKind}
 use Rattle.op_forms.specs.declared.signature.ArgumentKind.TheVariants as kind
+use Rattle.op_forms.specs.Fits.{is_built_in}
 use Rattle.op_forms.specs.Signature.{arguments, further}
 use Rattle.py_meaning.specs.Syntax as syntax
 use Rattle.py_safe.specs.Rosters.{Role, OfModule, OfFunction, OfClass, Roster, roster_of, IsBlock, IsCode}
@@ -79,11 +80,16 @@ abbrev pub IsTested : syntax.Expression → Type 0
 IsTested (syntax.Operation line o xs) = GivesTruth o
 IsTested other = ⊥
 
+-- the name of a built-in
+abbrev pub IsBuiltInName : syntax.Expression → Type 0
+IsBuiltInName (syntax.Constant v) = is_built_in v ≡ true
+IsBuiltInName other = ⊥
+
 -- what an expression gives is of the kind that an operation takes: a bare name is a text, a truth value comes from an operation that
 -- gives one, and any expression gives a value. No expression is known to give anything else that an operation asks for
 abbrev pub Serves : ArgumentKind → syntax.Expression → Type 0
 Serves kind.Name x = IsText x
-Serves kind.BuiltinName x = IsText x
+Serves kind.BuiltinName x = IsBuiltInName x
 Serves kind.Value x = Unit {0}
 Serves kind.Bool x = IsTested x
 Serves other x = ⊥

@@ -8,8 +8,9 @@ use Rattle.nu_value.specs.declared.object.Object.TheVariants as object
 use Rattle.nu_value.specs.declared.value.Value.{Value}
 use Rattle.nu_value.specs.declared.value.Value.TheVariants as value
 use Rattle.nu_value.specs.Names.{NameList}
-use Rattle.nu_value.specs.Pairs.{PairList}
+use Rattle.nu_value.specs.Keyed.{object_kind}
 use Rattle.op_forms.specs.Fits.{are_keywords}
+use Rattle.op_forms.specs.Parts.{AllOf, NamesOf, PartsOf}
 use Rattle.op_forms.specs.Sound.{AnException, IsA, IsIn}
 use Rattle.py_safe.specs.Rosters.{Role, OfFunction, OfClass, Roster}
 
@@ -33,9 +34,11 @@ pub data Nature : Type 0 where
   ATuple : Nature
   AList : Nature
   ADict : Nature
+  ARange : Nature
   AFunction : (code : ℕ) → Nature
   AClass : Nature
   AGenerator : (code : ℕ) → Nature
+  AView : Nature
   ACell : Nature
   ASpace : Nature
   AnError : Nature
@@ -45,18 +48,21 @@ abbrev pub nature_of : Option Object → Nature
 nature_of (Some (object.Tuple items)) = ATuple
 nature_of (Some (object.List items)) = AList
 nature_of (Some (object.Dict pairs)) = ADict
+nature_of (Some (object.Range start stop step)) = ARange
 nature_of (Some (object.Function code defaults keywords cells)) = AFunction code
 nature_of (Some (object.Class name base own native)) = AClass
 nature_of (Some (object.Generator code state given cells)) = AGenerator code
+nature_of (Some (object.View dict kind)) = AView
 nature_of (Some (object.Cell v)) = ACell
 nature_of (Some (object.Space names)) = ASpace
 nature_of (Some (object.Exception class args entries fields cause)) = AnError
 nature_of other = Another
 
--- every object is still there, with its nature and its mark
+-- every object is still there, with its nature, what it is as a key, and its mark
 pub record Grows (v more : View) : Type 0 where
   pub longer : length v.heap ≤ length more.heap
   pub natures : (n : ℕ) → n < length v.heap → nature_of (slice_get more.heap n) ≡ nature_of (slice_get v.heap n)
+  pub kinds : (n : ℕ) → n < length v.heap → object_kind n (slice_get more.heap n) ≡ object_kind n (slice_get v.heap n)
   pub marks : (n : ℕ) → n < length v.heap → more.marks n ≡ v.marks n
 
 -- Values and objects that name no marked object
@@ -66,39 +72,13 @@ IsOpen marks (value.Obj n) = marks n ≡ Open
 IsOpen marks other = Unit {0}
 
 abbrev pub AllOpen : (ℕ → Mark) → List Value → Type 0
-AllOpen marks [] = Unit {0}
-AllOpen marks (v ∷ vs) = IsOpen marks v × AllOpen marks vs
+AllOpen marks = AllOf (IsOpen marks)
 
 abbrev pub NamesOpen : (ℕ → Mark) → NameList → Type 0
-NamesOpen marks [] = Unit {0}
-NamesOpen marks (p ∷ ps) = IsOpen marks p.1 × NamesOpen marks ps
-
-abbrev pub PairsOpen : (ℕ → Mark) → PairList → Type 0
-PairsOpen marks [] = Unit {0}
-PairsOpen marks (p ∷ ps) = IsOpen marks p.1 × IsOpen marks p.2 × PairsOpen marks ps
-
--- the object of this number, if there is any
-abbrev pub IfAnyOpen : (ℕ → Mark) → Option ℕ → Type 0
-IfAnyOpen marks None = Unit {0}
-IfAnyOpen marks (Some number) = marks number ≡ Open
+NamesOpen marks = NamesOf (IsOpen marks)
 
 abbrev pub ObjectOpen : (ℕ → Mark) → Object → Type 0
-ObjectOpen marks (object.Tuple items) = AllOpen marks items
-ObjectOpen marks (object.List items) = AllOpen marks items
-ObjectOpen marks (object.Dict pairs) = PairsOpen marks pairs
-ObjectOpen marks (object.Range start stop step) = Unit {0}
-ObjectOpen marks (object.Function code defaults keywords cells) = AllOpen marks defaults × NamesOpen marks keywords × AllOpen marks cells
-ObjectOpen marks (object.Method receiver function) = IsOpen marks receiver × (marks function ≡ Open)
-ObjectOpen marks (object.Class name base own native) = IfAnyOpen marks base × NamesOpen marks own
-ObjectOpen marks (object.Instance class fields) = (marks class ≡ Open) × NamesOpen marks fields
-ObjectOpen marks (object.Generator code state given cells) = AllOpen marks given × AllOpen marks cells
-ObjectOpen marks (object.Iterator over place size over_now) = IsOpen marks over
-ObjectOpen marks (object.View dict kind) = marks dict ≡ Open
-ObjectOpen marks (object.Cell v) = IsOpen marks v
-ObjectOpen marks (object.Space names) = NamesOpen marks names
-ObjectOpen marks (object.Exception class args entries fields cause) = (marks class ≡ Open) × AllOpen marks args × NamesOpen marks fields × IfAnyOpen marks cause
-ObjectOpen marks (object.Builtin name receiver) = IsOpen marks receiver
-ObjectOpen marks (object.Trace exception) = marks exception ≡ Open
+ObjectOpen marks = PartsOf (IsOpen marks)
 
 -- Functions and generators
 

@@ -3,13 +3,14 @@
 
 ghost use Rattle.py_table.specs.Laws.{TheTableKeepsLaw};
 
-use op_rules::{finishing_keeps_sound, rows_keep_sound, the_start_is_sound};
+use op_forms::doings_keep_sound;
+use op_rules::{finishing_keeps_sound, the_start_is_sound};
 
 /// The table of operations keeps law.
 pub fn the_table_keeps_law()
     ensures { TheTableKeepsLaw }
 {
-    rows_keep_sound();
+    doings_keep_sound();
     finishing_keeps_sound();
     the_start_is_sound();
 }

@@ -1,2 +1,1 @@
 mod Keywords
-mod Places

@@ -7,6 +7,7 @@ ghost use Rattle.op_forms.specs.Fits as spec;
 ghost use Rattle.runtime_table.specs.Keywords.{text_at};
 ghost use Rattle.std.specs.List.{list_all};
 
+use nu_text::is_built_in_name;
 use nu_value::{Heap, Object, Pairs, Value};
 use op_forms::{ArgumentKind, Op, World};
 
@@ -25,6 +26,16 @@ fn is_text(value: &Value) -> bool
 {
     match value {
         Value::Str(_) => true,
+        _ => false,
+    }
+}
+
+// Whether a value is the name of a built-in.
+fn is_built_in(value: &Value) -> bool
+    ensures { result ≡ spec.is_built_in value.now }
+{
+    match value {
+        Value::Str(text) => is_built_in_name(text.as_str()),
         _ => false,
     }
 }
@@ -80,7 +91,8 @@ fn is_of(kind: ArgumentKind, world: &World, value: &Value) -> bool
 {
     let object = object_of(&world.heap, value);
     match kind {
-        ArgumentKind::Name | ArgumentKind::BuiltinName => is_text(value),
+        ArgumentKind::Name => is_text(value),
+        ArgumentKind::BuiltinName => is_built_in(value),
         ArgumentKind::Value => is_in(world.heap.len(), value),
         ArgumentKind::Any => !value.is_set() || is_in(world.heap.len(), value),
         ArgumentKind::Cell => matches!(object, Some(Object::Cell(_))),

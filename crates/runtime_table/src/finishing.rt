@@ -8,6 +8,7 @@ ghost use Rattle.op_forms.specs.declared.end.OpEnd.TheVariants as opend;
 ghost use Rattle.op_rules.specs.Comparisons.{give_bool};
 ghost use Rattle.op_rules.specs.Finish as spec;
 ghost use Rattle.op_forms.specs.Answers as answers;
+ghost use Rattle.op_forms.specs.Doing.{Did, DidIn};
 ghost use Rattle.op_forms.specs.Sound.{AfterIn, EndIn, IsIn, Sound};
 
 use crate::arguments::object_of;
@@ -80,8 +81,7 @@ fn copied(alloc: Global, values: &[Value]) -> Result<Items, AllocError>
 }
 
 fn tuple(alloc: Global, heap: &mut Heap, value: &Value) -> Result<OpEnd, AllocError>
-    ensures end { IfOk result (λ e. e ≡ (spec.tuple_after heap.old (object_of heap.old value.now)).end) }
-    ensures heap { OnOk result (heap.new ≡ (spec.tuple_after heap.old (object_of heap.old value.now)).heap) }
+    ensures { IfOk result (λ e. Did (spec.tuple_after heap.old (object_of heap.old value.now)) heap.old heap.new e) }
 {
     let Some(Object::List(items)) = object_of(heap, value) else {
         return Ok(OpEnd::Stop(StopKind::Unbuilt));
@@ -97,8 +97,7 @@ fn finished(
     after: After,
     value: Value,
 ) -> Result<OpEnd, AllocError>
-    ensures end { IfOk result (λ e. e ≡ (spec.finished after world.old value).end) }
-    ensures world { OnOk result (world.new ≡ answers.after world.old (spec.finished after world.old value)) }
+    ensures { IfOk result (λ e. DidIn (spec.finishing after world.old.heap value) world.old world.new e) }
 {
     match after {
         After::Plain => Ok(OpEnd::Give(value)),

@@ -1,10 +1,9 @@
 //! Operations on names and cells (reference, section 4.2).
 
-ghost use Rattle.std.specs.Prelude.{◌≡◌, ◌<◌, ◌++◌, IfOk, OnOk, IfSome, length, slice_get, slice_set, option_copied};
+ghost use Rattle.std.specs.Prelude.{◌≡◌, ◌++◌, IfOk, OnOk, slice_get, option_copied};
 ghost use Rattle.nu_value.specs.Names.{value_at};
-ghost use Rattle.nu_value.specs.declared.object.Object.TheVariants as object;
 ghost use Rattle.op_rules.specs.Kinds as kinds;
-ghost use Rattle.op_forms.specs.Answers.{after};
+ghost use Rattle.op_forms.specs.Doing.{Bind, Unbind, Hold, changed_by, put_at, Did, DidIn};
 ghost use Rattle.op_forms.specs.Answers as answers;
 ghost use Rattle.op_rules.specs.NameRows as spec;
 
@@ -88,68 +87,72 @@ pub fn global_row(alloc: Global, world: &World, name: &str) -> Result<OpEnd, All
 }
 
 fn bind(object: &mut Object, name: RcStr, value: Value) -> Result<(), AllocError>
-    ensures { OnOk result (object.new ≡ spec.with_binding name value object.old) }
+    ensures { OnOk result (object.new ≡ changed_by (Bind name value) object.old) }
 {
-    if let Object::Space(names) = object {
-        names.set(name, value)?;
+    match object {
+        Object::Space(names) => names.set(name, value),
+        Object::Instance { fields, .. } => fields.set(name, value),
+        Object::Exception { fields, .. } => fields.set(name, value),
+        Object::Class { own, native: false, .. } => own.set(name, value),
+        _ => Ok(()),
     }
-    Ok(())
 }
 
 fn bind_in(heap: &mut Heap, space: u64, name: RcStr, value: Value) -> Result<(), AllocError>
-    requires { space < length heap.old }
-    ensures { OnOk result (IfSome (slice_get heap.old space) (λ o. heap.new ≡ slice_set heap.old space (spec.with_binding name value o))) }
+    ensures { OnOk result (heap.new ≡ put_at heap.old space (Bind name value) (slice_get heap.old space)) }
 {
-    let Some(object) = heap.get_mut(space) else {
-        unreachable!();
-    };
-    bind(object, name, value)
+    match heap.get_mut(space) {
+        Some(object) => bind(object, name, value),
+        None => Ok(()),
+    }
 }
 
 /// Gives a name of the module its value.
 pub fn setglobal_row(world: &mut World, name: &RcStr, value: &Value) -> Result<OpEnd, AllocError>
-    ensures end { IfOk result (λ e. e ≡ (spec.setglobal_row world.old name.now value.now).end) }
-    ensures world { OnOk result (world.new ≡ after world.old (spec.setglobal_row world.old name.now value.now)) }
+    ensures { IfOk result (λ e. DidIn (spec.setglobal_row world.old name.now value.now) world.old world.new e) }
 {
     let module = world.module;
-    if world.heap.len() <= module {
-        return Ok(OpEnd::Stop(StopKind::Unbuilt));
-    }
     bind_in(&mut world.heap, module, name.share()?, value.copy()?)?;
     Ok(OpEnd::Give(Value::None))
 }
 
-fn forget(object: &mut Object, name: &str)
-    ensures { object.new ≡ spec.without_binding name.now object.old }
+fn unbind(object: &mut Object, name: &str)
+    ensures { object.new ≡ changed_by (Unbind name.now) object.old }
 {
-    if let Object::Space(names) = object {
-        let _ = names.remove(name);
+    match object {
+        Object::Space(names) => {
+            let _ = names.remove(name);
+        }
+        Object::Instance { fields, .. } => {
+            let _ = fields.remove(name);
+        }
+        Object::Exception { fields, .. } => {
+            let _ = fields.remove(name);
+        }
+        Object::Class { own, native: false, .. } => {
+            let _ = own.remove(name);
+        }
+        _ => {}
     }
 }
 
-fn forget_in(heap: &mut Heap, space: u64, name: &str)
-    requires { space < length heap.old }
-    ensures { IfSome (slice_get heap.old space) (λ o. heap.new ≡ slice_set heap.old space (spec.without_binding name.now o)) }
+fn unbind_in(heap: &mut Heap, space: u64, name: &str)
+    ensures { heap.new ≡ put_at heap.old space (Unbind name.now) (slice_get heap.old space) }
 {
-    let Some(object) = heap.get_mut(space) else {
-        unreachable!();
-    };
-    forget(object, name);
+    if let Some(object) = heap.get_mut(space) {
+        unbind(object, name);
+    }
 }
 
 /// Takes a name out of the module.
 pub fn delglobal_row(alloc: Global, world: &mut World, name: &str) -> Result<OpEnd, AllocError>
-    ensures end { IfOk result (λ e. e ≡ (spec.delglobal_row world.old name.now).end) }
-    ensures world { OnOk result (world.new ≡ after world.old (spec.delglobal_row world.old name.now)) }
+    ensures { IfOk result (λ e. DidIn (spec.delglobal_row world.old name.now) world.old world.new e) }
 {
     let module = world.module;
     if in_space(&world.heap, module, name).is_none() {
         return not_defined(alloc, name);
     }
-    if world.heap.len() <= module {
-        return Ok(OpEnd::Stop(StopKind::Unbuilt));
-    }
-    forget_in(&mut world.heap, module, name);
+    unbind_in(&mut world.heap, module, name);
     Ok(OpEnd::Give(Value::None))
 }
 
@@ -165,8 +168,7 @@ pub fn local_row(alloc: Global, value: &Value, name: &str) -> Result<OpEnd, Allo
 
 /// A new cell.
 pub fn cell_row(heap: &mut Heap) -> Result<OpEnd, AllocError>
-    ensures end { IfOk result (λ e. e ≡ (spec.cell_row heap.old).end) }
-    ensures heap { OnOk result (heap.new ≡ (spec.cell_row heap.old).heap) }
+    ensures { IfOk result (λ e. Did (spec.cell_row heap.old) heap.old heap.new e) }
 {
     let number = heap.make(Object::Cell(Value::Unset))?;
     Ok(OpEnd::Give(Value::Obj(number)))
@@ -185,24 +187,29 @@ fn held_by(heap: &Heap, cell: &Value) -> Result<Value, AllocError>
     }
 }
 
-#[tactic(auto, using(crate::proofs::Places::set_nowhere))]
-fn fill_in(heap: &mut Heap, number: u64, value: Value)
-    ensures { heap.new ≡ slice_set heap.old number (object.Cell value) }
+fn hold(object: &mut Object, value: Value)
+    ensures { object.new ≡ changed_by (Hold value) object.old }
 {
-    let Some(cell) = heap.get_mut(number) else {
-        return;
-    };
-    *cell = Object::Cell(value);
+    if let Object::Cell(held) = object {
+        *held = value;
+    }
+}
+
+fn hold_in(heap: &mut Heap, cell: u64, value: Value)
+    ensures { heap.new ≡ put_at heap.old cell (Hold value) (slice_get heap.old cell) }
+{
+    if let Some(object) = heap.get_mut(cell) {
+        hold(object, value);
+    }
 }
 
 // Fills a cell.
 fn fill(heap: &mut Heap, cell: &Value, value: Value) -> OpEnd
-    ensures end { result ≡ (spec.filled heap.old cell.now value).end }
-    ensures heap { heap.new ≡ (spec.filled heap.old cell.now value).heap }
+    ensures { Did (spec.cellset_row cell.now value) heap.old heap.new result }
 {
     match cell {
         Value::Obj(number) => {
-            fill_in(heap, *number, value);
+            hold_in(heap, *number, value);
             OpEnd::Give(Value::None)
         }
         _ => OpEnd::Stop(StopKind::Unbuilt),
@@ -211,8 +218,7 @@ fn fill(heap: &mut Heap, cell: &Value, value: Value) -> OpEnd
 
 /// Fills a cell.
 pub fn cellset_row(heap: &mut Heap, cell: &Value, value: &Value) -> Result<OpEnd, AllocError>
-    ensures end { IfOk result (λ e. e ≡ (spec.cellset_row heap.old cell.now value.now).end) }
-    ensures heap { OnOk result (heap.new ≡ (spec.cellset_row heap.old cell.now value.now).heap) }
+    ensures { IfOk result (λ e. Did (spec.cellset_row cell.now value.now) heap.old heap.new e) }
 {
     let value = value.copy()?;
     Ok(fill(heap, cell, value))
@@ -240,8 +246,7 @@ pub fn celldel_row(
     cell: &Value,
     name: &str,
 ) -> Result<OpEnd, AllocError>
-    ensures end { IfOk result (λ e. e ≡ (spec.celldel_row heap.old cell.now name.now).end) }
-    ensures heap { OnOk result (heap.new ≡ (spec.celldel_row heap.old cell.now name.now).heap) }
+    ensures { IfOk result (λ e. Did (spec.celldel_row heap.old cell.now name.now) heap.old heap.new e) }
 {
     match held_by(heap, cell)? {
         Value::Unset => no_local(alloc, name),
@@ -271,8 +276,7 @@ pub fn freedel_row(
     cell: &Value,
     name: &str,
 ) -> Result<OpEnd, AllocError>
-    ensures end { IfOk result (λ e. e ≡ (spec.freedel_row heap.old cell.now name.now).end) }
-    ensures heap { OnOk result (heap.new ≡ (spec.freedel_row heap.old cell.now name.now).heap) }
+    ensures { IfOk result (λ e. Did (spec.freedel_row heap.old cell.now name.now) heap.old heap.new e) }
 {
     match held_by(heap, cell)? {
         Value::Unset => no_free(alloc, name),

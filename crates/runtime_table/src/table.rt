@@ -1,14 +1,17 @@
 //! What an operation does to a world.
 
-ghost use Rattle.std.specs.Prelude.{◌≡◌, IfOk, OnOk, true, [], ◌∷◌};
+ghost use Rattle.std.specs.Prelude.{◌≡◌, IfOk, OnOk, true, Ok, [], ◌∷◌};
 ghost use Rattle.nu_run.specs.declared.StopKind.TheVariants as stop;
 ghost use Rattle.op_forms.specs.declared.end.OpEnd.TheVariants as opend;
-ghost use Rattle.op_forms.specs.Fits.{fits};
-ghost use Rattle.op_forms.specs.Answers.{after};
-ghost use Rattle.op_forms.specs.Answers as answers;
-ghost use Rattle.op_rules.specs.NameRows as names;
 ghost use Rattle.op_forms.specs.declared.op.Op.TheVariants as op;
+ghost use Rattle.op_forms.specs.Answers.{after};
+ghost use Rattle.op_forms.specs.Doing.{DidIn, ends};
+ghost use Rattle.op_forms.specs.Fits.{fits};
 ghost use Rattle.op_forms.specs.Sound.{Sound, EndIn};
+ghost use Rattle.op_rules.specs.Binding.{bound_end};
+ghost use Rattle.op_rules.specs.CallRows as spec_calls;
+ghost use Rattle.op_rules.specs.IntRows.{int_row};
+ghost use Rattle.op_rules.specs.NameRows.{names};
 ghost use Rattle.op_rules.specs.Table as spec;
 
 use crate::calls::call_row;
@@ -65,8 +68,7 @@ fn family_of(heap: &Heap, args: &[Value]) -> Family
 
 // An operation that goes by the kinds of its operands.
 fn by_family(alloc: Global, op: Op, world: &mut World, args: &[Value]) -> Result<OpEnd, AllocError>
-    ensures end { IfOk result (λ e. e ≡ spec.by_family op world.old.heap args.now) }
-    ensures world { world.new ≡ world.old }
+    ensures { IfOk result (λ e. DidIn (spec.by_family op world.old.heap args.now) world.old world.new e) }
 {
     match family_of(&world.heap, args) {
         Family::Integers => apply_int(alloc, op, &mut world.heap, &world.codes, args),
@@ -85,7 +87,23 @@ pub fn apply(alloc: Global, op: Op, world: &mut World, args: &[Value]) -> Result
     ensures names { Sound world.old → IfOk result (λ e. EndIn world.new.heap e) }
 {
     rows_keep_sound();
-    table_row(alloc, op, world, args)
+    let end = done(alloc, op, world, args)?;
+    Ok(bound(world, end))
+}
+
+// A function that is asked is bound.
+fn bound(world: &mut World, end: OpEnd) -> OpEnd
+    ensures { DidIn (bound_end world.old end) world.old world.new result }
+{
+    match end {
+        OpEnd::Ask(_, _, _, _) => OpEnd::Stop(StopKind::Unbuilt),
+        OpEnd::Give(value) => OpEnd::Give(value),
+        OpEnd::Raise(number, args) => OpEnd::Raise(number, args),
+        OpEnd::Resume(number, how) => OpEnd::Resume(number, how),
+        OpEnd::Put(text) => OpEnd::Put(text),
+        OpEnd::Line => OpEnd::Line,
+        OpEnd::Stop(kind) => OpEnd::Stop(kind),
+    }
 }
 
 fn unbuilt() -> Result<OpEnd, AllocError>
@@ -94,8 +112,8 @@ fn unbuilt() -> Result<OpEnd, AllocError>
     Ok(OpEnd::Stop(StopKind::Unbuilt))
 }
 
-fn global(alloc: Global, world: &World, name: &Value) -> Result<OpEnd, AllocError>
-    ensures { IfOk result (λ e. e ≡ (spec.row op.Global world.now (name.now ∷ [])).end) }
+fn global(alloc: Global, world: &mut World, name: &Value) -> Result<OpEnd, AllocError>
+    ensures { IfOk result (λ e. DidIn (names op.Global world.old (name.now ∷ [])) world.old world.new e) }
 {
     match name {
         Value::Str(name) => global_row(alloc, world, name.as_str()),
@@ -104,8 +122,7 @@ fn global(alloc: Global, world: &World, name: &Value) -> Result<OpEnd, AllocErro
 }
 
 fn setglobal(world: &mut World, name: &Value, value: &Value) -> Result<OpEnd, AllocError>
-    ensures end { IfOk result (λ e. e ≡ (spec.row op.SetGlobal world.old (name.now ∷ value.now ∷ [])).end) }
-    ensures world { OnOk result (world.new ≡ after world.old (spec.row op.SetGlobal world.old (name.now ∷ value.now ∷ []))) }
+    ensures { IfOk result (λ e. DidIn (names op.SetGlobal world.old (name.now ∷ value.now ∷ [])) world.old world.new e) }
 {
     match name {
         Value::Str(name) => setglobal_row(world, name, value),
@@ -114,8 +131,7 @@ fn setglobal(world: &mut World, name: &Value, value: &Value) -> Result<OpEnd, Al
 }
 
 fn delglobal(alloc: Global, world: &mut World, name: &Value) -> Result<OpEnd, AllocError>
-    ensures end { IfOk result (λ e. e ≡ (spec.row op.DelGlobal world.old (name.now ∷ [])).end) }
-    ensures world { OnOk result (world.new ≡ after world.old (spec.row op.DelGlobal world.old (name.now ∷ []))) }
+    ensures { IfOk result (λ e. DidIn (names op.DelGlobal world.old (name.now ∷ [])) world.old world.new e) }
 {
     match name {
         Value::Str(name) => delglobal_row(alloc, world, name.as_str()),
@@ -123,8 +139,13 @@ fn delglobal(alloc: Global, world: &mut World, name: &Value) -> Result<OpEnd, Al
     }
 }
 
-fn local(alloc: Global, _world: &World, value: &Value, name: &Value) -> Result<OpEnd, AllocError>
-    ensures { IfOk result (λ e. e ≡ (spec.row op.Local _world.now (value.now ∷ name.now ∷ [])).end) }
+fn local(
+    alloc: Global,
+    _world: &mut World,
+    value: &Value,
+    name: &Value,
+) -> Result<OpEnd, AllocError>
+    ensures { IfOk result (λ e. DidIn (names op.Local _world.old (value.now ∷ name.now ∷ [])) _world.old _world.new e) }
 {
     match name {
         Value::Str(name) => local_row(alloc, value, name.as_str()),
@@ -132,98 +153,121 @@ fn local(alloc: Global, _world: &World, value: &Value, name: &Value) -> Result<O
     }
 }
 
-fn cellget(alloc: Global, heap: &Heap, cell: &Value, name: &Value) -> Result<OpEnd, AllocError>
-    ensures { IfOk result (λ e. e ≡ (names.named heap.now (λ name. answers.keeps heap.now (names.cellget_row heap.now cell.now name)) name.now).end) }
+fn cellset(world: &mut World, cell: &Value, value: &Value) -> Result<OpEnd, AllocError>
+    ensures { IfOk result (λ e. DidIn (names op.CellSet world.old (cell.now ∷ value.now ∷ [])) world.old world.new e) }
+{
+    cellset_row(&mut world.heap, cell, value)
+}
+
+fn cellget(
+    alloc: Global,
+    world: &mut World,
+    cell: &Value,
+    name: &Value,
+) -> Result<OpEnd, AllocError>
+    ensures { IfOk result (λ e. DidIn (names op.CellGet world.old (cell.now ∷ name.now ∷ [])) world.old world.new e) }
 {
     match name {
-        Value::Str(name) => cellget_row(alloc, heap, cell, name.as_str()),
+        Value::Str(name) => cellget_row(alloc, &world.heap, cell, name.as_str()),
         _ => unbuilt(),
     }
 }
 
-fn celldel(alloc: Global, heap: &mut Heap, cell: &Value, name: &Value) -> Result<OpEnd, AllocError>
-    ensures end { IfOk result (λ e. e ≡ (names.named heap.old (names.celldel_row heap.old cell.now) name.now).end) }
-    ensures heap { OnOk result (heap.new ≡ (names.named heap.old (names.celldel_row heap.old cell.now) name.now).heap) }
+fn celldel(
+    alloc: Global,
+    world: &mut World,
+    cell: &Value,
+    name: &Value,
+) -> Result<OpEnd, AllocError>
+    ensures { IfOk result (λ e. DidIn (names op.CellDel world.old (cell.now ∷ name.now ∷ [])) world.old world.new e) }
 {
     match name {
-        Value::Str(name) => celldel_row(alloc, heap, cell, name.as_str()),
+        Value::Str(name) => celldel_row(alloc, &mut world.heap, cell, name.as_str()),
         _ => unbuilt(),
     }
 }
 
-fn freeget(alloc: Global, heap: &Heap, cell: &Value, name: &Value) -> Result<OpEnd, AllocError>
-    ensures { IfOk result (λ e. e ≡ (names.named heap.now (λ name. answers.keeps heap.now (names.freeget_row heap.now cell.now name)) name.now).end) }
+fn freeget(
+    alloc: Global,
+    world: &mut World,
+    cell: &Value,
+    name: &Value,
+) -> Result<OpEnd, AllocError>
+    ensures { IfOk result (λ e. DidIn (names op.FreeGet world.old (cell.now ∷ name.now ∷ [])) world.old world.new e) }
 {
     match name {
-        Value::Str(name) => freeget_row(alloc, heap, cell, name.as_str()),
+        Value::Str(name) => freeget_row(alloc, &world.heap, cell, name.as_str()),
         _ => unbuilt(),
     }
 }
 
-fn freedel(alloc: Global, heap: &mut Heap, cell: &Value, name: &Value) -> Result<OpEnd, AllocError>
-    ensures end { IfOk result (λ e. e ≡ (names.named heap.old (names.freedel_row heap.old cell.now) name.now).end) }
-    ensures heap { OnOk result (heap.new ≡ (names.named heap.old (names.freedel_row heap.old cell.now) name.now).heap) }
+fn freedel(
+    alloc: Global,
+    world: &mut World,
+    cell: &Value,
+    name: &Value,
+) -> Result<OpEnd, AllocError>
+    ensures { IfOk result (λ e. DidIn (names op.FreeDel world.old (cell.now ∷ name.now ∷ [])) world.old world.new e) }
 {
     match name {
-        Value::Str(name) => freedel_row(alloc, heap, cell, name.as_str()),
+        Value::Str(name) => freedel_row(alloc, &mut world.heap, cell, name.as_str()),
         _ => unbuilt(),
     }
 }
 
-// The row of the table.
-fn table_row(alloc: Global, op: Op, world: &mut World, args: &[Value]) -> Result<OpEnd, AllocError>
-    ensures end { IfOk result (λ e. e ≡ (spec.row op world.old args.now).end) }
-    ensures world { OnOk result (world.new ≡ after world.old (spec.row op world.old args.now)) }
+// The rows on names and cells.
+fn names_row(alloc: Global, op: Op, world: &mut World, args: &[Value]) -> Result<OpEnd, AllocError>
+    ensures { IfOk result (λ e. DidIn (names op world.old args.now) world.old world.new e) }
+{
+    match (op, args) {
+        (Op::Global, [name]) => global(alloc, world, name),
+        (Op::SetGlobal, [name, value]) => setglobal(world, name, value),
+        (Op::DelGlobal, [name]) => delglobal(alloc, world, name),
+        (Op::Local, [value, name]) => local(alloc, world, value, name),
+        (Op::Cell, []) => cell_row(&mut world.heap),
+        (Op::CellSet, [cell, value]) => cellset(world, cell, value),
+        (Op::CellGet, [cell, name]) => cellget(alloc, world, cell, name),
+        (Op::CellDel, [cell, name]) => celldel(alloc, world, cell, name),
+        (Op::FreeGet, [cell, name]) => freeget(alloc, world, cell, name),
+        (Op::FreeDel, [cell, name]) => freedel(alloc, world, cell, name),
+        _ => unbuilt(),
+    }
+}
+
+fn comparing(alloc: Global, op: Op, world: &mut World, args: &[Value]) -> Result<OpEnd, AllocError>
+    ensures { IfOk result (λ e. DidIn (ends (int_row op world.old.heap args.now)) world.old world.new e) }
+{
+    apply_int(alloc, op, &mut world.heap, &world.codes, args)
+}
+
+fn calling(alloc: Global, world: &mut World, args: &[Value]) -> Result<OpEnd, AllocError>
+    ensures { IfOk result (λ e. DidIn (ends (spec_calls.call_row world.old.heap args.now)) world.old world.new e) }
+{
+    call_row(alloc, &world.heap, args)
+}
+
+// What the operation does before a function that it asks is bound.
+fn done(alloc: Global, op: Op, world: &mut World, args: &[Value]) -> Result<OpEnd, AllocError>
+    ensures { IfOk result (λ e. DidIn (spec.doing op world.old args.now) world.old world.new e) }
 {
     match op {
-        Op::Global => match args {
-            [name] => global(alloc, world, name),
-            _ => unbuilt(),
-        },
-        Op::SetGlobal => match args {
-            [name, value] => setglobal(world, name, value),
-            _ => unbuilt(),
-        },
-        Op::DelGlobal => match args {
-            [name] => delglobal(alloc, world, name),
-            _ => unbuilt(),
-        },
-        Op::Local => match args {
-            [value, name] => local(alloc, world, value, name),
-            _ => unbuilt(),
-        },
-        Op::Cell => match args {
-            [] => cell_row(&mut world.heap),
-            _ => unbuilt(),
-        },
-        Op::CellSet => match args {
-            [cell, value] => cellset_row(&mut world.heap, cell, value),
-            _ => unbuilt(),
-        },
-        Op::CellGet => match args {
-            [cell, name] => cellget(alloc, &world.heap, cell, name),
-            _ => unbuilt(),
-        },
-        Op::CellDel => match args {
-            [cell, name] => celldel(alloc, &mut world.heap, cell, name),
-            _ => unbuilt(),
-        },
-        Op::FreeGet => match args {
-            [cell, name] => freeget(alloc, &world.heap, cell, name),
-            _ => unbuilt(),
-        },
-        Op::FreeDel => match args {
-            [cell, name] => freedel(alloc, &mut world.heap, cell, name),
-            _ => unbuilt(),
-        },
-        Op::Eq | Op::Ne | Op::Is | Op::IsNot | Op::Not | Op::Truth => apply_int(
+        Op::Global
+        | Op::SetGlobal
+        | Op::DelGlobal
+        | Op::Local
+        | Op::Cell
+        | Op::CellSet
+        | Op::CellGet
+        | Op::CellDel
+        | Op::FreeGet
+        | Op::FreeDel => names_row(alloc, op, world, args),
+        Op::Eq | Op::Ne | Op::Is | Op::IsNot | Op::Not | Op::Truth => comparing(
             alloc,
             op,
-            &mut world.heap,
-            &world.codes,
+            world,
             args,
         ),
-        Op::Call => call_row(alloc, &world.heap, args),
+        Op::Call => calling(alloc, world, args),
         Op::Add
         | Op::Sub
         | Op::Mul

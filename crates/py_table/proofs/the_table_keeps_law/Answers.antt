@@ -2,4 +2,4 @@ use Rattle.py_table.proofs.Table.{table_law}
 use Rattle.py_table.proofs.the_table_keeps_law.Goals as goal
 
 pub returns : goal.returns
-returns c = table_law c.rows_keep_sound.ensures c.finishing_keeps_sound.ensures c.the_start_is_sound.ensures
+returns c = table_law c.doings_keep_sound.ensures c.finishing_keeps_sound.ensures c.the_start_is_sound.ensures
