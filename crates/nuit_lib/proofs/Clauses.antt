@@ -1,5 +1,5 @@
 -- The clauses of a command, from how a call ended, where no count of faults rose.
-use Rattle.std.proofs.Common.{◌≡◌, ℕ, ◌⊎◌, inl, inr, List, refl, sym, ◌∙◌, ap, subst, arith, Option, Some, None, IfSome, unwrap_or, is_some, true, false}
+use Rattle.std.proofs.Common.{◌≡◌, ℕ, ◌⊎◌, inl, inr, List, refl, sym, ◌∙◌, ap, subst, arith, Option, Some, None, IfSome, IsSome, unwrap_or, is_some, true, false}
 use Rattle.nu_run.specs.declared.End.TheVariants as end
 use Rattle.nu_run.specs.Runs.{Run, Going, Ended, printed_by}
 use Rattle.nu_base.specs.Outside.{Adds}
@@ -10,7 +10,7 @@ use Rattle.nuit_lib.specs.declared.status.Status.{Status}
 use Rattle.nuit_lib.specs.declared.status.Status.TheVariants as status
 use Rattle.nuit_lib.specs.Words.{Command, BuildFile, RunFile, file_of, command_of}
 use Rattle.nuit_lib.specs.Replies.{Reply, BuildReply, RunReply, Ran, status_of, message_of}
-use Rattle.nuit_lib.specs.Ends.{Sunk, Call, Stays, Got, Broke, told_of, Replied, Ends, IsQuiet, Names, Builds, Runs}
+use Rattle.nuit_lib.specs.Ends.{Sunk, Call, Stays, Got, Broke, told_of, Replied, Ends, IsQuiet, AsksForFile, Names, Builds, Runs}
 use Rattle.nuit_lib.specs.Refusals.{OneKind}
 use Rattle.nuit_lib.proofs.Ending.{other}
 use Rattle.nuit_lib.proofs.OneKind.{one_kind}
@@ -85,6 +85,16 @@ usage_reply (Some command) (Some bytes) input answer t m r = (λ e. absurd (subs
 
 pub usage_of : (c : Call) (answer : Status) → Ends c answer → Quiet c answer → (answer ≡ status.Usage → command_of c.words ≡ None) × (command_of c.words ≡ None → answer ≡ status.Usage)
 usage_of c answer w q = let r = replies c answer w q in usage_reply (command_of c.words) r.is.file r.is.input answer r.text r.message r.is.reply
+
+-- a reply is Missing only to a command
+missing_asks : (o : Option Command) (file : Option (List ℕ)) (input t m : List ℕ) → Reply o file input status.Missing t m → IsSome o
+missing_asks None file input t m r = absurd r
+missing_asks (Some command) file input t m r = refl
+
+pub asks_of : (c : Call) (answer : Status) → Ends c answer → AsksForFile (command_of c.words) answer
+asks_of c status.ReadFault w = ap is_some w.is_due.is
+asks_of c status.Missing w = missing_asks (command_of c.words) w.is_due.file w.is_due.input w.text w.message w.is_due.reply
+asks_of c a w = tt
 
 -- a reply on a file is Missing exactly where there is none
 missing_reply : (command : Command) (file : Option (List ℕ)) (input : List ℕ) (answer : Status) (t m : List ℕ) → Reply (Some command) file input answer t m → (answer ≡ status.Missing → file ≡ None) × (file ≡ None → answer ≡ status.Missing)

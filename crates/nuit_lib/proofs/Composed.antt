@@ -1,5 +1,5 @@
 -- The stages one after another, from a resolved script to the program that is written.
-use Rattle.std.proofs.Common.{◌≡◌, ℕ, ◌≤◌, List, [], ◌∷◌, length, map, Bool, true, false, Option, Some, None, Ok, if◌then◌else◌, refl, sym, ◌∙◌, ap, subst, arith}
+use Rattle.std.proofs.Common.{◌≡◌, ℕ, ◌+◌, ◌≤◌, List, [], ◌∷◌, length, map, Bool, true, false, Option, Some, None, Ok, if◌then◌else◌, refl, sym, ◌∙◌, ap, subst, arith}
 use Rattle.std.specs.Prelude.{◌&&◌, not}
 use Rattle.std.specs.List.{AllByRecursion}
 use Rattle.std.proofs.lemmas.List.{length-map}
@@ -161,6 +161,9 @@ flat_taken (k ∷ ks) (f ∷ fs) h a = (h.0.operations (λ o args. not (is_taken
 heading_is : AllByRecursion IsHeading (module_header ∷ [])
 heading_is = (record { params = tt; order = refl; from_one = omega arith }, tt)
 
+no_others : (scripts others all : ℕ) → scripts + others ≡ all → scripts ≡ 1 → all ≡ 1 → others ≡ 0
+no_others scripts others all h one alone = omega (arith, h, one, alone)
+
 module _ (name : List ℕ) (s : Scoped) (tree : NodeScript) (lines : FlatScript) (r : IsReformed name s tree) (l : lowering.Lowers tree lines) (kept : lowering_kept.KeepsEach tree.codes lines.functions) where
   heads : map header lines.functions ≡ map node_run.header tree.codes
   heads = headers_are tree.codes lines.functions l.functions
@@ -188,6 +191,8 @@ module _ (name : List ℕ) (s : Scoped) (tree : NodeScript) (lines : FlatScript)
   module _ (law : RunsNeverEndUndefined) (table : TheTableKeepsLaw) (defined : AcceptedScriptsNeverEndUndefined) (lowered : lowering.DoesTheSame tree lines) (p : CProgram) (cut : cutting.DoesTheSame lines p) (heads_kept : cutting.HasHeads lines p) where
     pub is_program : Answers s.script (Ok s) → IsProgramOf name s p
     is_program accepted = record {
+      file = heads_kept.name ∙ l.name ∙ r.name;
+      builtins = no_others _ _ _ heads_kept.all (heads_kept.scripts ∙ one_script) one_function;
       scripts = heads_kept.scripts ∙ l.scripts ∙ r.scripts;
       headers = heads_kept.headers ∙ heads ∙ r.headers;
       same = λ input. same input;

@@ -11,9 +11,11 @@ use Rattle.c_meaning.specs.declared.program.CProgram.{CProgram}
 use Rattle.c_meaning.specs.Run.{c_run, header_of}
 use Rattle.c_meaning.specs.Written.{IsText}
 
--- the program does what the script of this name does, over every input, and has one function for each scope, by its number, with its name,
--- parameters, kind and first line
+-- the program does what the script of this name does, over every input; it has that name, and one function for each scope, by its number, with
+-- its name, parameters, kind and first line, and no others, since there is no built-in text yet
 pub record IsProgramOf (name : List ℕ) (s : Scoped) (program : CProgram) : Type 0 where
+  pub file : program.name ≡ name
+  pub builtins : program.builtins ≡ 0
   pub scripts : program.scripts ≡ length s.scopes
   pub headers : map header_of program.functions ≡ map (λ code. code.header) (all_codes s None)
   pub same : (input : List ℕ) → Same (py_run table_rules name s None input) (c_run table_rules program input)

@@ -1,5 +1,5 @@
 -- How a call ends, and what it leaves.
-use Rattle.std.specs.Prelude.{◌≡◌, ◌≢◌, ℕ, ◌<◌, ◌≤◌, ◌⊎◌, ◌↔◌, List, [], length, Option, Some, None, IfSome}
+use Rattle.std.specs.Prelude.{◌≡◌, ◌≢◌, ℕ, ◌<◌, ◌≤◌, ◌⊎◌, ◌↔◌, List, [], length, Option, Some, None, IfSome, IsSome, ⊤}
 use Rattle.nu_base.specs.Outside.{Rose, Faulted, told_file, Adds, AddsFront}
 use Rattle.nuit_lib.specs.declared.status.Status.{Status}
 use Rattle.nuit_lib.specs.declared.status.Status.TheVariants as status
@@ -63,8 +63,10 @@ pub record Replied (c : Call) (answer : Status) (out err : List ℕ) : Type 0 wh
   pub reply : Reply (command_of c.words) file input answer out err
   pub faults : c.faults_after ≡ c.faults
 
--- a file that can't be read
+-- the file of a command, which can't be read
 pub record Unread (c : Call) (out err : List ℕ) : Type 0 where
+  pub command : Command
+  pub is : command_of c.words ≡ Some command
   pub says : Says read_fault_text out err
   pub faults : Faulted c.faults c.faults_after
 
@@ -151,6 +153,12 @@ pub record IsQuiet (f f' o o' e e' : ℕ) (answer : Status) : Type 0 where
   pub out : Rose o o' → ⊥
   pub err : Rose e e' → ⊥
   pub memory : answer ≢ status.Memory
+
+-- a file was missing, or couldn't be read, only where the words have a command with a file
+abbrev pub AsksForFile : Option Command → Status → Type 0
+AsksForFile command status.ReadFault = IsSome command
+AsksForFile command status.Missing = IsSome command
+AsksForFile command answer = ⊤
 
 -- a script of this kind is refused with a message that names it, with a line that belongs to it
 pub record Names (kind : Kind) (bytes : List ℕ) (before after : Option (List ℕ)) : Type 0 where

@@ -2,7 +2,7 @@
 
 ghost use Rattle.std.specs.Prelude.{◌≡◌, ◌↔◌, ℕ, ◌≤◌, List, Option, Some, None, length, map, string_bytes};
 ghost use Rattle.nuit_lib.specs.Words.{BuildFile, Command, RunFile, command_of, file_of};
-ghost use Rattle.nuit_lib.specs.Ends.{Builds, Ends, IsQuiet, Performs, Runs, call_of, limit_of, sunk};
+ghost use Rattle.nuit_lib.specs.Ends.{AsksForFile, Builds, Ends, IsQuiet, Performs, Runs, call_of, limit_of, sunk};
 
 use crate::building::build;
 use crate::running::run;
@@ -40,6 +40,11 @@ pub fn nuit<F: Files, I: Source, O: Sink, E: Sink>(
         → IsQuiet (F.faults files.old) (F.faults files.new) (O.faults out.old) (O.faults out.new) (E.faults err.old) (E.faults err.new) result
         → (result ≡ Status.Missing) ↔ (told (file_of command) ≡ None) }
 
+    // A file is asked for only by a command that has one. ReadFault and Missing come to such a command alone, and where the words have no
+    // form the files stay untouched.
+    ensures asks { AsksForFile (command_of (map string_bytes words.now)) result }
+    ensures untouched { command_of (map string_bytes words.now) ≡ None → files.new ≡ files.old }
+
     // `build FILE`, for told files, of which one has the name.
     ensures build { (name bytes : List ℕ) → (told : List ℕ → Option (List ℕ))
         → command_of (map string_bytes words.now) ≡ Some (BuildFile name) → F.told files.old ≡ Some told → told name ≡ Some bytes
@@ -75,6 +80,7 @@ fn answer<F: Files, I: Source, O: Sink, E: Sink>(
         (sunk (E.held err.old) (E.held err.new) (E.faults err.old) (E.faults err.new))) result }
     ensures input { input.new ≡ input.old }
     ensures files { F.told files.new ≡ F.told files.old }
+    ensures untouched { command_of (map string_bytes words.now) ≡ None → files.new ≡ files.old }
 {
     let Some((verb, name)) = command(words) else {
         return say(err, USAGE, Status::Usage);

@@ -347,12 +347,12 @@ fn is_right(alloc: Global, row: &str) -> Result<bool, Fail> {
     let Some((kind, script)) = row.split_once(": ") else {
         return Ok(false);
     };
+    let message = format!(in alloc; "nuit: refused: {kind}\n")?;
     let script = with_line_ends(alloc, script)?;
     let (status, _out, err) = called(alloc, "000 build t.py", script.as_bytes())?;
     if kind == "Built" {
         return Ok(status == Status::Done && err.bytes().is_empty());
     }
-    let message = format!(in alloc; "nuit: refused: {kind}\n")?;
     Ok(status == Status::Refused && err.bytes() == message.as_bytes())
 }
 

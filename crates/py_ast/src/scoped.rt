@@ -50,3 +50,8 @@ pub struct Scoped {
     pub script: Script,
     pub scopes: Items<Scope>,
 }
+
+impl Scoped {
+    /// Lets the tree and its scopes go, as `Script::let_go` does.
+    pub fn let_go(self) {}
+}

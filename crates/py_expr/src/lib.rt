@@ -12,9 +12,9 @@ mod operations;
 mod parts;
 mod productions;
 
-pub use py_cursor::{Cursor, EXPRESSION, MAX_DEPTH, begins_item, can_begin};
 pub use productions::{
     expression, expression_to, exprs, exprs_to, params, params_to, row_to, target, target_to,
     targets, targets_to, yield_to,
 };
+pub use py_cursor::{Cursor, EXPRESSION, MAX_DEPTH, begins_item, can_begin};
 pub use py_grammar::{Found, Mark, ParseEnd};

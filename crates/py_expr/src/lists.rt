@@ -10,9 +10,9 @@ use crate::grammar::Grammar;
 use crate::nodes::{alone, tall};
 use py_ast::{Argument, Clause, Clauses, Entry, Expr, Item, Link, Param, Sign, Word};
 use py_cursor::{
-    Cursor, DISJUNCTION, EXPRESSION, begins_argument, begins_clause, begins_entry,
-    begins_item, begins_param, can_begin, is_comparison, only, opened, opened_argument,
-    opened_clause, opened_entry, opened_item, params_in_order, role_of, with_part,
+    Cursor, DISJUNCTION, EXPRESSION, begins_argument, begins_clause, begins_entry, begins_item,
+    begins_param, can_begin, is_comparison, only, opened, opened_argument, opened_clause,
+    opened_entry, opened_item, params_in_order, role_of, with_part,
 };
 use py_grammar::{Found, Mark, ParseEnd, Row};
 use sqlite_items::{Boxed, Items};

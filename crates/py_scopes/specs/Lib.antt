@@ -1,6 +1,7 @@
 pub mod Names
 pub mod Parts
 pub mod Survey
+pub mod Roles
 pub mod Homes
 pub mod Rules
 pub mod Seen

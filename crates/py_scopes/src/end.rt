@@ -31,6 +31,7 @@ pub enum ScopeEnd {
     /// A parameter or a keyword argument stands twice in one list (sections 8.7 and 6.3.4).
     #[error("repeated name in line {line}")]
     Repeat { line: u32 },
+    /// There was no memory; this says nothing of the script.
     #[error("out of memory")]
     Memory,
 }

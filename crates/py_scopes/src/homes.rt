@@ -92,12 +92,13 @@ pub fn home<'a>(survey: &Survey, seen: &Seen<'a>, name: &'a str, scope: usize) -
 }
 
 /// The home of a name is that of the nearest scope around it that binds it or declares it global, a class counting
-/// for what stands in the class itself only; where there is none, it is the module.
+/// for what stands in the class itself only; where there is none, it is the module (reference, section 4.2.2).
 pub fn has_nearest_home()
     ensures { HasNearestHome }
 {}
 
-/// The scopes of a script nest: each but the first, the module's, stands directly in one of a lower number.
+/// The scopes that `resolve` and `resolve_built_in` answer nest: each but the first, the module's, stands directly in
+/// one of a lower number (reference, section 4.1).
 pub fn scopes_nest()
     ensures { ScopesNest }
 {}

@@ -1,6 +1,7 @@
 //! Where the names of a script live, and its static rules (reference, sections 4.2, 6 to 8).
 #![tactic(auto)]
 
+ghost use Rattle.std.specs.Prelude.{◌≡◌};
 ghost use Rattle.py_scopes.specs.Resolve.{Answers, AnswersAs, AnswersBuiltIn};
 
 mod end;
@@ -29,7 +30,11 @@ pub fn resolve(alloc: Global, script: Script) -> Result<Scoped, ScopeEnd>
     resolve_as(alloc, false, script)
 }
 
-/// The same of the built-in text: it may also name the natives that are for this text alone.
+/// The scopes of the built-in text with the homes of their names, or the first kind of the table whose rule it breaks
+/// (reference, sections 4.2, 6 to 8).
+///
+/// The rules and their order are those of `resolve`, but this text may also name the natives that are for it alone,
+/// those of `nu_text::TEXT_NATIVES`. `Memory` says nothing of the text.
 pub fn resolve_built_in(alloc: Global, script: Script) -> Result<Scoped, ScopeEnd>
     ensures { AnswersBuiltIn script result }
 {
@@ -42,7 +47,14 @@ fn resolve_as(alloc: Global, built_in: bool, script: Script) -> Result<Scoped, S
 {
     match resolved(alloc, built_in, &script) {
         Ok(Ok(scopes)) => Ok(Scoped { script, scopes }),
-        Ok(Err(end)) => Err(end),
-        Err(_) => Err(ScopeEnd::Memory),
+        Ok(Err(end)) => refused(script, end),
+        Err(_) => refused(script, ScopeEnd::Memory),
     }
+}
+
+fn refused(script: Script, end: ScopeEnd) -> Result<Scoped, ScopeEnd>
+    ensures { result ≡ Err end }
+{
+    script.let_go();
+    Err(end)
 }

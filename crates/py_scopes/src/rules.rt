@@ -152,7 +152,9 @@ fn is_unknown<'a>(
     requires names { (x : List ℕ) → sees.has names.now.keys 0 x ≡ list_any (spec.binds_in_module survey.now x) survey.now.sites }
     ensures { result ≡ spec.is_unknown survey.now scope name.now }
 {
-    !is_listed(names, 0, name) && !is_given(survey.built_in, name) && home(survey, seen, name, scope) == 0
+    !is_listed(names, 0, name)
+        && !is_given(survey.built_in, name)
+        && home(survey, seen, name, scope) == 0
 }
 
 /// Whether a name or an identifier breaks its rule.

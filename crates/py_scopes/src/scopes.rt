@@ -140,6 +140,22 @@ fn filled<'a>(
     Ok(Items::from_vec(scopes))
 }
 
+/// The scopes of the survey with the homes of their names, or what its script breaks.
+fn answer<'a>(
+    alloc: Global,
+    survey: &'a Survey,
+    seen: &Seen<'a>,
+) -> Result<Result<Items<Scope>, ScopeEnd>, AllocError>
+    requires { Sees seen.now survey.now.sites }
+    ensures { IfOk result (spec.Resolves survey.now) }
+{
+    if let Some(end) = refusal(alloc, survey, seen)? {
+        return Ok(Err(end));
+    }
+    let scopes = filled(alloc, survey, seen)?;
+    Ok(Ok(scopes))
+}
+
 /// The scopes of the script, or of the built-in text, with the homes of their names, or what it breaks.
 pub fn resolved(
     alloc: Global,
@@ -150,9 +166,5 @@ pub fn resolved(
 {
     let survey = survey_of(alloc, built_in, script)?;
     let seen = Seen::of(alloc, survey.sites.as_slice())?;
-    if let Some(end) = refusal(alloc, &survey, &seen)? {
-        return Ok(Err(end));
-    }
-    let scopes = filled(alloc, &survey, &seen)?;
-    Ok(Ok(scopes))
+    answer(alloc, &survey, &seen)
 }

@@ -1,7 +1,8 @@
 //! The pass over the tree that makes the survey.
 
-ghost use Rattle.std.specs.Prelude.{◌≡◌, map, false, not, option_map, OnOk, IfOk, length};
+ghost use Rattle.std.specs.Prelude.{◌≡◌, map, false, option_map, OnOk, IfOk, length};
 ghost use Rattle.py_scopes.specs.Parts as parts;
+ghost use Rattle.py_scopes.specs.Roles as roles;
 ghost use Rattle.py_scopes.specs.Survey as spec;
 ghost use Rattle.py_ast.specs.declared.scoped.ScopeKind.TheVariants as kind;
 ghost use Rattle.py_scopes.specs.declared.survey.Role.TheVariants as role;
@@ -102,17 +103,10 @@ impl Surveyor {
     }
 
     /// Begins the scope of a lambda, a comprehension or a generator expression, and answers the place inside it.
-    fn begin(
-        &mut self,
-        role: Role,
-        place: Place,
-        line: u32,
-        kind: ScopeKind,
-    ) -> Result<Place, AllocError>
-        ensures enters { OnOk result (self.new.survey ≡ spec.enter line kind (spec.own_name kind) place (spec.misplaced_if (not (spec.is_value role)) line place self.old.survey)) }
-        ensures inside { IfOk result (λ own. own ≡ spec.inside kind place (spec.misplaced_if (not (spec.is_value role)) line place self.old.survey)) }
+    fn begin(&mut self, place: Place, line: u32, kind: ScopeKind) -> Result<Place, AllocError>
+        ensures enters { OnOk result (self.new.survey ≡ spec.enter line kind (spec.own_name kind) place self.old.survey) }
+        ensures inside { IfOk result (λ own. own ≡ spec.inside kind place self.old.survey) }
     {
-        self.misplaced_if(!is_value(role), place, line)?;
         let name = RcStr::from_str(self.alloc, own_name(kind))?;
         self.enter(place, line, kind, name)
     }
@@ -121,37 +115,34 @@ impl Surveyor {
     fn expr(&mut self, role: Role, place: Place, x: &Expr) -> Result<(), AllocError>
         ensures { OnOk result (self.new.survey ≡ spec.expr x.now role place self.old.survey) }
     {
+        self.misplaced_if(is_misplaced(role, x), place, x.line())?;
         match x {
-            Expr::None(line)
-            | Expr::True(line)
-            | Expr::False(line)
-            | Expr::Number(line, _)
-            | Expr::Text(line, _) => self.misplaced_if(!is_value(role), place, *line),
+            Expr::None(_)
+            | Expr::True(_)
+            | Expr::False(_)
+            | Expr::Number(_, _)
+            | Expr::Text(_, _) => Ok(()),
             Expr::Name(line, name) => {
                 let name = self.spelled(place, name)?;
                 self.site(place, *line, named(role, name))
             }
-            Expr::Tuple(line, xs) | Expr::List(line, xs) => {
-                self.misplaced_if(is_single(role), place, *line)?;
+            Expr::Tuple(_, xs) | Expr::List(_, xs) => {
                 self.items(listed(role), place, xs.as_slice())
             }
-            Expr::Dict(line, entries) => {
-                self.misplaced_if(!is_value(role), place, *line)?;
-                self.entries(place, entries.as_slice())
-            }
+            Expr::Dict(_, entries) => self.entries(place, entries.as_slice()),
             Expr::ListComprehension(line, element, clauses) => {
-                let own = self.begin(role, place, *line, ScopeKind::ListComprehension)?;
+                let own = self.begin(place, *line, ScopeKind::ListComprehension)?;
                 self.expr(Role::Value, own, element.get())?;
                 self.clauses(own, place, clauses.get())
             }
             Expr::DictComprehension(line, key, value, clauses) => {
-                let own = self.begin(role, place, *line, ScopeKind::DictComprehension)?;
+                let own = self.begin(place, *line, ScopeKind::DictComprehension)?;
                 self.expr(Role::Value, own, key.get())?;
                 self.expr(Role::Value, own, value.get())?;
                 self.clauses(own, place, clauses.get())
             }
             Expr::Generator(line, element, clauses) => {
-                let own = self.begin(role, place, *line, ScopeKind::Generator)?;
+                let own = self.begin(place, *line, ScopeKind::Generator)?;
                 self.expr(Role::Value, own, element.get())?;
                 self.clauses(own, place, clauses.get())
             }
@@ -159,57 +150,38 @@ impl Surveyor {
                 self.expr(Role::Value, place, value.get())?;
                 self.site(place, *line, What::Attribute(attribute.share()?))
             }
-            Expr::Index(line, value, at) => {
-                let at = at.get();
-                self.misplaced_if(is_slice(at) && !is_value(role), place, *line)?;
+            Expr::Index(_, value, at) => {
                 self.expr(Role::Value, place, value.get())?;
-                self.subscript(place, at)
+                self.subscript(place, at.get())
             }
             Expr::Call(line, called, arguments) => {
-                self.misplaced_if(!is_value(role), place, *line)?;
                 self.expr(Role::Value, place, called.get())?;
                 self.arguments(place, *line, arguments.as_slice())
             }
-            Expr::Unary(line, _, value) | Expr::Not(line, value) => {
-                self.misplaced_if(!is_value(role), place, *line)?;
+            Expr::Unary(_, _, value) | Expr::Not(_, value) | Expr::Star(_, value) => {
                 self.expr(Role::Value, place, value.get())
             }
-            Expr::Binary(line, _, left, right) | Expr::Junction(line, _, left, right) => {
-                self.misplaced_if(!is_value(role), place, *line)?;
+            Expr::Binary(_, _, left, right) | Expr::Junction(_, _, left, right) => {
                 self.expr(Role::Value, place, left.get())?;
                 self.expr(Role::Value, place, right.get())
             }
-            Expr::Compare(line, first, links) => {
-                self.misplaced_if(!is_value(role), place, *line)?;
+            Expr::Compare(_, first, links) => {
                 self.expr(Role::Value, place, first.get())?;
                 self.links(place, links.as_slice())
             }
-            Expr::Conditional(line, test, chosen, otherwise) => {
-                self.misplaced_if(!is_value(role), place, *line)?;
+            Expr::Conditional(_, test, chosen, otherwise) => {
                 self.expr(Role::Value, place, chosen.get())?;
                 self.expr(Role::Value, place, test.get())?;
                 self.expr(Role::Value, place, otherwise.get())
             }
             Expr::Lambda(line, params, body) => {
-                let own = self.begin(role, place, *line, ScopeKind::Lambda)?;
+                let own = self.begin(place, *line, ScopeKind::Lambda)?;
                 self.params(own, place, params.as_slice())?;
                 self.expr(Role::Value, own, body.get())
             }
-            Expr::Yield(line, value) => {
-                self.misplaced_if(!is_value(role), place, *line)?;
+            Expr::Yield(line, None) => self.site(place, *line, What::Yield),
+            Expr::Yield(line, Some(value)) | Expr::YieldFrom(line, value) => {
                 self.site(place, *line, What::Yield)?;
-                match value {
-                    Some(value) => self.expr(Role::Value, place, value.get()),
-                    None => Ok(()),
-                }
-            }
-            Expr::YieldFrom(line, value) => {
-                self.misplaced_if(!is_value(role), place, *line)?;
-                self.site(place, *line, What::Yield)?;
-                self.expr(Role::Value, place, value.get())
-            }
-            Expr::Star(line, value) => {
-                self.site(place, *line, What::Misplaced)?;
                 self.expr(Role::Value, place, value.get())
             }
         }
@@ -599,6 +571,19 @@ fn is_stray(role: Role, before: bool) -> bool
     }
 }
 
+/// Whether an expression is no target, where one has to stand, or is a star that no rule allows.
+fn is_misplaced(role: Role, x: &Expr) -> bool
+    ensures { result ≡ roles.is_misplaced role x.now }
+{
+    match x {
+        Expr::Name(_, _) | Expr::Attribute(_, _, _) => false,
+        Expr::Tuple(_, _) | Expr::List(_, _) => is_single(role),
+        Expr::Index(_, _, at) => is_slice(at.get()) && !is_value(role),
+        Expr::Star(_, _) => true,
+        _ => !is_value(role),
+    }
+}
+
 fn is_slice(at: &Subscript<Expr>) -> bool
     ensures { result ≡ spec.is_slice at.now }
 {
@@ -667,6 +652,7 @@ fn finishing(place: Place) -> Place
 pub fn survey_of(alloc: Global, built_in: bool, script: &Script) -> Result<Survey, AllocError>
     ensures { IfOk result (λ survey. survey ≡ spec.survey_of built_in script.now.statements) }
 {
+    let name = RcStr::from_str(alloc, own_name(ScopeKind::Module))?;
     let mut surveyor = Surveyor {
         alloc,
         survey: Survey {
@@ -681,7 +667,6 @@ pub fn survey_of(alloc: Global, built_in: bool, script: &Script) -> Result<Surve
         in_loop: false,
         in_except: false,
     };
-    let name = RcStr::from_str(alloc, own_name(ScopeKind::Module))?;
     surveyor.enter(top, 1, ScopeKind::Module, name)?;
     surveyor.stmts(top, script.statements.as_slice())?;
     let Surveyor { alloc: _, survey } = surveyor;

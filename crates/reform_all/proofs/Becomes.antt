@@ -240,6 +240,13 @@ else_fails names line [] other old mid ps e some b x = absurd (some refl)
 else_fails names line (b ∷ bs) other old mid ps e some y x =
     fails_by _ _ e (λ at f. with_else names (b ∷ bs) other ∙ ap (λ u. built.before u (unbuilt_in names other)) y.built ∙ f) x
 
+-- where the `else` of a loop is not built
+pub loop_else_fails : (names : List (List ℕ)) (test : Expr) (body other : List Stmt) (old a b : ℕ) (p : Part) (bs : List Node) (e : ReformEnd) → IsExpressed names test old a p → AllBecome names body a b bs → Fails (unbuilt_in names other) e → Fails (built.before ((built.expr test).unbuilt names) (built.before (unbuilt_in names body) (unbuilt_in names other))) e
+loop_else_fails names test body other old a b p bs e x y f =
+    fails_by _ _ e (λ line u.
+    ap (λ v. built.before v (built.before (unbuilt_in names body) (unbuilt_in names other))) x.built
+    ∙ ap (λ v. built.before v (unbuilt_in names other)) y.built ∙ u) f
+
 pub choosing_end : (names : List (List ℕ)) (bs : List (Branch Stmt)) (old now : ℕ) (ps : List Choice) → Choosing names bs [] old now ps → BranchesBecome names bs old now ps
 choosing_end names bs old now ps g = subst (λ l. BranchesBecome names bs old now l) (choices_nil ps) (g.goes_on now [] (no_branch names now))
 

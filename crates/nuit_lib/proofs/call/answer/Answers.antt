@@ -1,6 +1,7 @@
 use Rattle.std.proofs.Common.{◌≡◌, ◌++◌, ◌<◌, length, refl, sym, ◌∙◌, ap, subst, Some, IfSome, IsSomeAnd}
 use Rattle.nu_base.specs.Outside.{told_file}
 use Rattle.nuit_lib.specs.declared.status.Status.TheVariants as status
+use Rattle.nuit_lib.specs.Asked.{asked}
 use Rattle.nuit_lib.proofs.Ending.{said_writes, nothing_part, file_asked, unknown, absent, long, performed_ends}
 use Rattle.nuit_lib.proofs.call.answer.Goals as goal
 
@@ -37,5 +38,10 @@ returns-in-Ok-Absent-clause-ends g c =
 pub returns-in-Err-Failed-clause-ends : goal.returns-in-Err-Failed-clause-ends
 returns-in-Err-Failed-clause-ends g c =
     said_writes _ _ _ _ _ status.ReadFault _ (λ w. w) (record { held = refl; faults = refl }) (nothing_part _ _)
-    (record { says = record { silent = refl; said = refl }; faults = rw c.in-Err-Failed.field-0-is at c.in-Err-Failed.ensures.count })
+    (record {
+      command = asked c.in-Some.verb c.in-Some.name.now;
+      is = sym c.in-Some.ensures;
+      says = record { silent = refl; said = refl };
+      faults = rw c.in-Err-Failed.field-0-is at c.in-Err-Failed.ensures.count;
+    })
     c.say-in-Err-Failed.ensures

@@ -1,4 +1,4 @@
-use Rattle.nuit_lib.proofs.Clauses.{usage_of, missing_of, builds_of, runs_of}
+use Rattle.nuit_lib.proofs.Clauses.{asks_of, usage_of, missing_of, builds_of, runs_of}
 use Rattle.nuit_lib.proofs.call.nuit.Goals as goal
 
 pub returns-clause-usage : goal.returns-clause-usage
@@ -6,6 +6,9 @@ returns-clause-usage g c = λ q. usage_of _ _ c.answer.ensures.ends q
 
 pub returns-clause-missing : goal.returns-clause-missing
 returns-clause-missing g c = λ command told w t q. missing_of _ command told w t _ c.answer.ensures.ends q
+
+pub returns-clause-asks : goal.returns-clause-asks
+returns-clause-asks g c = asks_of _ _ c.answer.ensures.ends
 
 pub returns-clause-build : goal.returns-clause-build
 returns-clause-build g c = λ name bytes told w t b q. builds_of _ name told w t bytes _ b c.answer.ensures.ends q

@@ -25,4 +25,4 @@ overflow_sub-result c =
 pub returns-then-follows_expression : goal.returns-then-follows_expression
 returns-then-follows_expression c =
     let s = from_place c.args.tokens.now c.args.at c.new-cursor.result c.new-cursor.ensures in
-    rw c.len.ensures (is_there Expression follows_expression (read_level 1) expression_spelled c.args.tokens.now c.args.at c.in-Ok.found c.expression_to.new.tokens c.requires (ap (read_level 1 400) (sym s) ∙ c.in-Ok.ensures) (ap follows_expression (sym c.mark.ensures) ∙ sym c.follows_expression.ensures ∙ c.if-follows_expression.true))
+    rw c.into_inner.ensures (rw c.len.ensures (is_there Expression follows_expression (read_level 1) expression_spelled c.args.tokens.now c.args.at c.in-Ok.found c.expression_to.new.tokens c.requires (ap (read_level 1 400) (sym s) ∙ c.in-Ok.ensures) (ap follows_expression (sym c.mark.ensures) ∙ sym c.follows_expression.ensures ∙ c.if-follows_expression.true)))

@@ -25,4 +25,4 @@ overflow_sub-result c =
 pub returns-then-follows_exprs : goal.returns-then-follows_exprs
 returns-then-follows_exprs c =
     let s = from_place c.args.tokens.now c.args.at c.new-cursor.result c.new-cursor.ensures in
-    rw c.len.ensures (is_there Exprs follows_exprs read_exprs exprs_spelled c.args.tokens.now c.args.at c.in-Ok.found c.exprs_to.new.tokens c.requires (ap (read_exprs 400) (sym s) ∙ c.in-Ok.ensures) (ap follows_exprs (sym c.mark.ensures) ∙ sym c.follows_exprs.ensures ∙ c.if-follows_exprs.true))
+    rw c.into_inner.ensures (rw c.len.ensures (is_there Exprs follows_exprs read_exprs exprs_spelled c.args.tokens.now c.args.at c.in-Ok.found c.exprs_to.new.tokens c.requires (ap (read_exprs 400) (sym s) ∙ c.in-Ok.ensures) (ap follows_exprs (sym c.mark.ensures) ∙ sym c.follows_exprs.ensures ∙ c.if-follows_exprs.true)))

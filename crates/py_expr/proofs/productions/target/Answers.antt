@@ -25,4 +25,4 @@ overflow_sub-result c =
 pub returns-then-follows_target : goal.returns-then-follows_target
 returns-then-follows_target c =
     let s = from_place c.args.tokens.now c.args.at c.new-cursor.result c.new-cursor.ensures in
-    rw c.len.ensures (is_there Target follows_target read_target target_spelled c.args.tokens.now c.args.at c.in-Ok.found c.target_to.new.tokens c.requires (ap (read_target 400) (sym s) ∙ c.in-Ok.ensures) (ap follows_target (sym c.mark.ensures) ∙ sym c.follows_target.ensures ∙ c.if-follows_target.true))
+    rw c.into_inner.ensures (rw c.len.ensures (is_there Target follows_target read_target target_spelled c.args.tokens.now c.args.at c.in-Ok.found c.target_to.new.tokens c.requires (ap (read_target 400) (sym s) ∙ c.in-Ok.ensures) (ap follows_target (sym c.mark.ensures) ∙ sym c.follows_target.ensures ∙ c.if-follows_target.true)))

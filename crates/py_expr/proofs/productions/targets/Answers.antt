@@ -25,4 +25,4 @@ overflow_sub-result c =
 pub returns-then-follows_targets : goal.returns-then-follows_targets
 returns-then-follows_targets c =
     let s = from_place c.args.tokens.now c.args.at c.new-cursor.result c.new-cursor.ensures in
-    rw c.len.ensures (is_there Targets follows_targets read_targets targets_spelled c.args.tokens.now c.args.at c.in-Ok.found c.targets_to.new.tokens c.requires (ap (read_targets 400) (sym s) ∙ c.in-Ok.ensures) (ap follows_targets (sym c.mark.ensures) ∙ sym c.follows_targets.ensures ∙ c.if-follows_targets.true))
+    rw c.into_inner.ensures (rw c.len.ensures (is_there Targets follows_targets read_targets targets_spelled c.args.tokens.now c.args.at c.in-Ok.found c.targets_to.new.tokens c.requires (ap (read_targets 400) (sym s) ∙ c.in-Ok.ensures) (ap follows_targets (sym c.mark.ensures) ∙ sym c.follows_targets.ensures ∙ c.if-follows_targets.true)))

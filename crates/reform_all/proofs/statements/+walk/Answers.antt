@@ -5,7 +5,7 @@ use Rattle.py_ast.specs.declared.stmt.Stmt.TheVariants.{rolls-Expr, rolls-Augmen
 use Rattle.reform_all.specs.Expressions.{Fails}
 use Rattle.reform_all.specs.Statements.{Stated, Chosen, BranchesBecome}
 use Rattle.reform_all.proofs.Lefts.{drop_item}
-use Rattle.reform_all.proofs.Becomes.{unbuilt_in, AllBecome, Goes, Choosing, goes_next, goes_end, choosing_next, choosing_end, body_fails, branches_fail, else_fails, evaluates, passes, breaks, continues, not_empty, chooses, repeats}
+use Rattle.reform_all.proofs.Becomes.{unbuilt_in, AllBecome, Goes, Choosing, goes_next, goes_end, choosing_next, choosing_end, body_fails, branches_fail, else_fails, loop_else_fails, evaluates, passes, breaks, continues, not_empty, chooses, repeats}
 use Rattle.reform_all.proofs.Quiets.{parts_quiet}
 use Rattle.reform_all.proofs.Rows.{stated}
 use Rattle.reform_all.proofs.statements.+walk.Goals as goal
@@ -122,6 +122,20 @@ statement-returns-in_ok-block-in-If t c = λ names holds.
     (subst (λ l. BranchesBecome names l c.args.temps.now c.choices.new.temps c.in_ok-choices-in-If.choices) c.as_slice-in-If.ensures (c.in_ok-choices-in-If.ensures names holds))
     (subst (λ l. AllBecome names l c.choices.new.temps c.statements.new.temps c.in_ok-other-in-If.other) c.as_slice-in-If-2.ensures (c.in_ok-other-in-If.ensures names holds))
     c.in_ok-block-in-If.ensures.drawn c.in_ok-block-in-If.ensures.carries c.in_ok-block-in-If.ensures.quiet)
+
+pub statement-returns-in_err-other-in-While : goal.statement-returns-in_err-other-in-While
+statement-returns-in_err-other-in-While t c = λ names holds.
+    let e = c.in_err-other-in-While.field-0.0 in
+    let same : Err e ≡ c.from_residual-in_err-other-in-While.result = search rules in
+    let a = c.expression-in-While.new.temps in
+    let b = c.statements-in-While.new.temps in
+    let d = c.statements-in-While-2.new.temps in
+    subst (λ r. Stated names c.args.s.now c.args.temps.now d r) same
+    (stated names c.args.s.now (Stmt-F.While c.in-While.line c.in-While.test c.in-While.body c.in-While.other) c.args.temps.now d (Err e) (rolls-While _ _ _ _ ∙ sym c.in-While.is)
+    (loop_else_fails names c.in-While.test c.in-While.body c.in-While.other c.args.temps.now a b c.in_ok-test-in-While.test c.in_ok-body-in-While.body e
+    (c.in_ok-test-in-While.ensures names holds)
+    (subst (λ l. AllBecome names l a b c.in_ok-body-in-While.body) c.as_slice-in-While.ensures (c.in_ok-body-in-While.ensures names holds))
+    (subst (λ l. Fails (unbuilt_in names l) e) c.as_slice-in-While-2.ensures (c.in_err-other-in-While.ensures names holds))))
 
 pub statement-returns-in_ok-block-in-While : goal.statement-returns-in_ok-block-in-While
 statement-returns-in_ok-block-in-While t c = λ names holds.

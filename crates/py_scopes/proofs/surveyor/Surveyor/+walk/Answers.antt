@@ -1,11 +1,10 @@
-use Rattle.std.proofs.Common.{rules, ◌≡◌, ◌∙◌, ap, sym, subst}
-use Rattle.std.specs.Prelude.{OnOk}
-use Rattle.py_scopes.specs.Survey as spec
-use Rattle.py_scopes.proofs.Lambdas.{lambda_adds}
+use Rattle.std.proofs.Common.{rules}
+use Rattle.py_scopes.proofs.Lambdas.{lambda_walked}
 use Rattle.py_scopes.proofs.surveyor.Surveyor.+walk.Goals as goal
 
 pub expr-returns-in_ok-params-in-Lambda : goal.expr-returns-in_ok-params-in-Lambda
 expr-returns-in_ok-params-in-Lambda t c =
-    subst (λ f. OnOk c.expr-in-Lambda.result (c.expr-in-Lambda.new.self.survey ≡ f c.args.role c.args.place c.args.self.now.survey))
-    (sym (ap spec.expr c.in-Lambda.is ∙ lambda_adds c.in-Lambda.line c.in-Lambda.params c.in-Lambda.body))
-    (search rules)
+    lambda_walked c.expr-in-Lambda.result c.in-Lambda.line c.in-Lambda.params c.in-Lambda.body c.args.x.now c.args.role c.args.place
+    c.in_ok-own-in-Lambda.own c.is_misplaced.result c.line.result
+    c.args.self.now.survey c.misplaced_if.new.self.survey c.begin-in-Lambda.new.self.survey c.params.new.self.survey c.expr-in-Lambda.new.self.survey
+    c.in-Lambda.is c.is_misplaced.ensures c.line.ensures (search rules) (search rules) (search rules) (search rules) (search rules)
