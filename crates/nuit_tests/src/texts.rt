@@ -363,7 +363,7 @@ const OTHERS: &str = r#"2 0|NU_SCRIPT("\042\077\134\012\303\244", 1, 1)⏎
 3 0|NU_CODE(0, "<module>", "", 0, 18446744073709551615, 1)⏎
 3 4|NU_CODE(0, "<module>", "", 0, 18446744073709551616, 1)⏎
 3 4|NU_CODE(0, "<module>", "", 0, 0, 0)⏎
-3 4|NU_CODE(0, "<module>", "", 1, 0, 1)⏎
+3 0|NU_CODE(0, "<module>", "", 1, 0, 1)⏎
 3 4|NU_CODE(0, "<module>", "nb pa", 0, 0, 1)⏎
 3 4|NU_CODE(0, "<module>", "sa sb", 0, 0, 1)⏎
 3 4|NU_CODE(0, "<module>", "da db", 0, 0, 1)⏎
@@ -400,7 +400,7 @@ const OTHERS: &str = r#"2 0|NU_SCRIPT("\042\077\134\012\303\244", 1, 1)⏎
 14 15|  r0 = nu_add(fr, 7, r0); if (nu_bad(fr)) goto L0;⏎
 14 15|  r0 = nu_add(fr, 7, r0, r1, r1); if (nu_bad(fr)) goto L0;⏎
 14 15|  r0 = nu_adds(fr, 7, r0, r1); if (nu_bad(fr)) goto L0;⏎
-14 15|  r0 = nu_tuple(fr, 7, r0, r1); if (nu_bad(fr)) goto L0;⏎
+14 0|  r0 = nu_tuple(fr, 7, r0, r1); if (nu_bad(fr)) goto L0;⏎
 16 17|L0:;⏎
 16 17|L01:;⏎
 22 23|  switch (nu_resume(fr)) { }⏎
