@@ -1,4 +1,5 @@
-use Rattle.std.proofs.Common.{rules, ◌≡◌, ◌∙◌, ◌<◌, ◌%◌, ap, sym, subst, refl, arith, length, Some, true, slice_get}
+use Rattle.std.proofs.Common.{rules, ◌≡◌, ◌∙◌, ◌<◌, ◌%◌, ap, sym, subst, refl, arith, length, Some, true, false, slice_get}
+use Rattle.nu_run.specs.Steps.{More}
 use Rattle.std.proofs.Math.ListN.{length-set}
 use Rattle.std.proofs.lemmas.List.Elements.{All-get_or}
 use Rattle.op_rules.specs.TableRules.{table_rules}
@@ -7,6 +8,7 @@ use Rattle.c_meaning.specs.Step.{placed_in, placed_step, step}
 use Rattle.c_machine.specs.Effects.{placed_for}
 use Rattle.c_machine.specs.Places.{Right, module_names}
 use Rattle.c_machine.specs.Standing.{state_of}
+use Rattle.c_machine.specs.Walks.{Leads}
 use Rattle.c_machine.proofs.Places.{hints_on, none_found, one_statement}
 use Rattle.c_machine.proofs.Stretches.{leads_far}
 use Rattle.c_machine.proofs.Walks.{leads_none}
@@ -45,3 +47,8 @@ loop-taken-preserved c =
       hints = λ n p name a b. hints_on x c.takes.new.self n name c.loop-taken.hints (x.place % 32) _ c.takes.new.hint c.takes.ensures.stays (c.loop-taken.invariant.hints n p name a b)
           (λ r. c.takes.ensures.hint n name (λ is. one_statement c.statements-statements.result.now n x.place p c.in-Some.placed.now (Some name) a at b is) r) within;
     }
+
+pub returns-then-not-takes-clause-leads : goal.returns-then-not-takes-clause-leads
+returns-then-not-takes-clause-leads c = λ w.
+    let stays : c.takes.result ≡ false = search rules in
+    subst (λ x. Leads (step table_rules c.args.code.now) printed_in c.loop-taken.taken c.loop-taken.taken (More (state_of c.args.self.now w)) (More (state_of x w))) (sym (c.takes.ensures.same stays)) (c.loop-taken.invariant.leads w)

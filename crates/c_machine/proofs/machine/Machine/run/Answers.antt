@@ -1,4 +1,4 @@
-use Rattle.std.proofs.Common.{◌≡◌, ◌+◌, [], ◌++◌, refl, sym, ◌∙◌, ap, subst, arith, rules, None, Err, true}
+use Rattle.std.proofs.Common.{◌≡◌, ◌+◌, [], ◌++◌, refl, sym, ◌∙◌, ap, subst, arith, rules, None, Err, IsOk, true}
 use Rattle.nu_run.specs.Steps.{More}
 use Rattle.op_rules.specs.TableRules.{table_rules}
 use Rattle.c_meaning.specs.State.{printed_in}
@@ -53,7 +53,8 @@ returns-in_err-step-clause-sure g c = λ works light.
     let going = (rest_none _ _ before.works).1 in
     let x = c.loop-taken.self.standing.execution in
     let one = light c.loop-taken.taken x stretch.0 c.loop-taken-test.true (λ w. (stretch.2 w).exact ∙ stands_going c.loop-taken.self.standing (printing w stretch.0) going) in
-    absurd (c.in_err-step.ensures.sure before.works (subst (λ k. is_light x (placed_for k x) ≡ true) (sym before.code) one))
+    let same : Err c.in_err-step.field-0.0 ≡ c.from_residual.result = search rules in
+    subst IsOk same (c.in_err-step.ensures.sure before.works (subst (λ k. is_light x (placed_for k x) ≡ true) (sym before.code) one))
 
 pub returns-in-Ended-clause-runs : goal.returns-in-Ended-clause-runs
 returns-in-Ended-clause-runs g c = λ works left.
