@@ -62,7 +62,7 @@ use Rattle.c_meaning.specs.State.{State, printed_in}
 use Rattle.c_meaning.specs.State as here
 use Rattle.c_meaning.specs.Step as c
 use Rattle.c_meaning.proofs.Grows.{step_grows, c_monotone}
-use Rattle.generator_cut.specs.Cut.{Plan, operand_of, argument_of, saves, loads, clears, resumption, becomes, behind, lines, counted, base_of, body_lines, body_of_kind, cut_body, function_of, program_of}
+use Rattle.generator_cut.specs.Cut.{Plan, operand_of, argument_of, saves, loads, clears, resumption, becomes, behind, lines, counted, base_of, body_lines, body_of_kind, cut_body, slots_of_kind, function_of, program_of}
 use Rattle.generator_cut.specs.Plan.{Has, Unwritten, GoesOn, IsPart, Closed, Works}
 use Rattle.generator_cut.proofs.Places.{some_is, c_first, c_find, from, Stands, first_at, next_at, goal_at, no_goal, placed_is, loads_some, part_next, part_find, part_whole, written_at, low, unfound, all_front, all_back, Placed, Paused, placed_first, front, first_none, Jumped, jumped, body_find, body_placed, counted_at, not_equal, equal_self, find_clears}
 use Rattle.generator_cut.proofs.Slots.{item, Fine, HasValue, item_blank, fine_written, value_written, cleared, Holds, stored_length, loaded_length, cleared_length, stored_holds, loaded_right, cleared_has}
@@ -591,10 +591,11 @@ module _ (rules : Rules) (script : FlatScript) (plan : FlatFunction → Plan) (L
       let chain = Resuming w g number false (told.Sent value.None) 0 below in
       let inner = inside rules script.scripts (scene (flat_around ks world)) number in
       let blank = replicate f.registers None in
-      let slots = replicate (plan f).slots None in
+      let many = slots_of_kind f.generator (plan f) in
+      let slots = replicate many None in
       let clear = clears_run number f is given cells None (purpose_of chain) (below_of chain) inner ks u out (plan f).cleared 1 blank slots (body_lines (plan f) f) (ap (λ b. from (body_of_kind b (plan f) f) 1) (sym e)) in
       let switch = switch_step number f is given cells None (purpose_of chain) (below_of chain) inner ks u out blank slots e 0 refl (goal_in 0 (body f) f.labels) refl 1 (start_goal f e) in
-      go_later (beginning number f is given cells (cleared (plan f).cleared blank) slots (cleared_agrees number f is) (λ t. length-replicate (plan f).slots None)) clear.place chain inner ks u out _ clear.stands (e, sits)
+      go_later (beginning number f is given cells (cleared (plan f).cleared blank) slots (cleared_agrees number f is) (λ t. length-replicate many None ∙ ap (λ b. slots_of_kind b (plan f)) e)) clear.place chain inner ks u out _ clear.stands (e, sits)
       (goes_some _ _ _ _ (goes_comes _ _ _ _ _ (one_step _ _ _ _ switch) clear.comes))
 
   begun_match : (o : Option FlatFunction) (w : Asleep) (below : Chain) (g number : ℕ) → slice_get script.functions number ≡ o → (given cells : List Value) (world : Scene) (ks : List (Option Dozing)) (u : Option Uncaught) (out : List ℕ) → Sits below w.spot u → Match (if is_there true o then More (machine.at number (lines_of o) (machine.fresh number given cells) None (stack_of (Resuming w g number false (told.Sent value.None) 0 below)) (flat_around ks (inside rules script.scripts (scene (flat_around ks world)) number)) out) else machine.undefined out) (c.begins_generator rules code (c_state w.spot w.place below world ks u out) g number given cells (option_map body_of (option_map (λ f. function_of (plan f) f) o)))

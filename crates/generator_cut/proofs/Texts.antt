@@ -23,7 +23,7 @@ use Rattle.flow_code.specs.Run.{header}
 use Rattle.flow_code.specs.WellFormed.{WellFormed, HasRoom}
 use Rattle.c_meaning.specs.declared.program.Line.{Line}
 use Rattle.c_meaning.specs.Written.{IsNumber, IsOperand, IsArgument, IsBodyLine, Once, has, label_of, IsParam, IsHeader, IsFunction, IsProgram}
-use Rattle.generator_cut.specs.Cut.{Plan, operand_of, argument_of, saves, loads, clears, becomes, behind, lines, counted, base_of, body_lines, body_of_kind, function_of, program_of, all_saved}
+use Rattle.generator_cut.specs.Cut.{Plan, operand_of, argument_of, saves, loads, clears, becomes, behind, lines, counted, base_of, body_lines, body_of_kind, slots_of_kind, function_of, program_of, all_saved}
 use Rattle.generator_cut.specs.Fits.{OperandFits, ArgumentFits, StatementFits, LineFits, ParamFits, HeaderFits, FunctionFits, ScriptFits}
 use Rattle.generator_cut.specs.Writable.{IsCounted, IsNamed, IsHeading, is_taken, refused}
 use Rattle.generator_cut.proofs.AllSaved.{counted_all, counted_length}
@@ -232,8 +232,12 @@ module _ (p : Plan) (f : FlatFunction) (small : IsSmall p f) (formed : WellForme
   )
   once_body false = once_left
 
+  slots_are : (b : Bool) → IsNumber (slots_of_kind b p)
+  slots_are true = small.slots
+  slots_are false = omega arith
+
   function_is : IsHeading (header f) → IsFunction (function_of p f)
-  function_is heading = record { header = header_is (header f) heading fit.heading; slots = small.slots; registers = fit.registers; each = body_is f.generator; once = once_body f.generator }
+  function_is heading = record { header = header_is (header f) heading fit.heading; slots = slots_are f.generator; registers = fit.registers; each = body_is f.generator; once = once_body f.generator }
 
 functions_are : (fs : List FlatFunction) → AllByRecursion IsHeading (map header fs) → AllByRecursion (λ f. refused f.body ≡ 0) fs → AllByRecursion WellFormed fs → AllByRecursion HasRoom fs → AllByRecursion FunctionFits fs
     → AllByRecursion IsFunction (map (λ f. function_of (all_saved f) f) fs)

@@ -34,7 +34,7 @@ fn function(alloc: Global, function: &FlatFunction) -> Result<Function, AllocErr
     put_lines(alloc, &mut out, labels + 1, &saved, body)?;
     Ok(Function {
         header: header(alloc, function)?,
-        slots: registers,
+        slots: if function.generator { registers } else { 0 },
         registers,
         body: Items::from_vec(out),
     })
