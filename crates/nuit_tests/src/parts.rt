@@ -1,7 +1,7 @@
 //! Calls of the crates below that `nuit` does not make, each once.
 //!
 //! The tables run through the others that take memory: `lex`, `parse`, `resolve`, `reform` with the calls of the reform crates and
-//! `Temps::fresh`, `lower`, `cut`, `emit` with `write`, `read`, `start`, `run`, `apply` with `apply_int` and `apply_text`, `Heap::new`,
+//! `Temps::fresh`, `lower`, `cut`, `emit`, `read`, `start`, `run`, `apply` with `apply_int` and `apply_text`, `Heap::new`,
 //! `Heap::make`, `Value::copy`, the calls of `Codes`, `Shape`, `Entries` and `Names`, `Items::push`, `Slots::push`, `RcStr::from_str`
 //! and `RcStr::share`, and those of the objects in memory that can fail.
 
