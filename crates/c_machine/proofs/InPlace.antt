@@ -35,7 +35,7 @@ use Rattle.c_meaning.specs.State.{State, undefined, next, jumps}
 use Rattle.c_meaning.specs.Step.{both, began, branches, operates, stores}
 use Rattle.c_machine.specs.declared.execution.Execution.{Execution}
 use Rattle.c_machine.specs.Effects.{answered}
-use Rattle.c_machine.specs.InPlace.{GoesOn, behind, bool_of, bound_in, given, int_of, is_quick, truth_of}
+use Rattle.c_machine.specs.InPlace.{GoesOn, behind, bool_of, bound_in, branched, given, int_of, is_quick, truth_of}
 use Rattle.c_machine.specs.Standing.{Outside, state_of}
 
 -- ---- what the table answers
@@ -166,6 +166,16 @@ operates_on x to line goal o (Some args) h v e = λ c w. operates_by c x to line
 
 pub stores_on : (x : Execution) (to : ℕ) (o : Option Value) (v : Value) → o ≡ Some v → GoesOn (λ c s. stores s to o) x (behind x x.world.heap to v)
 stores_on x to o v e = λ c w. rw e refl
+
+pub branches_by : (s : State) (goal : Option ℕ) (o : Option Value) → branches s goal o ≡ branched s goal (bool_of o)
+branches_by s goal None = refl
+branches_by s goal (Some (value.Bool true)) = refl
+branches_by s goal (Some (value.Bool false)) = refl
+branches_by s goal (Some value.Unset) = refl
+branches_by s goal (Some value.None) = refl
+branches_by s goal (Some (value.Int z)) = refl
+branches_by s goal (Some (value.Str text)) = refl
+branches_by s goal (Some (value.Obj n)) = refl
 
 pub branches_true : (s : State) (goal : Option ℕ) (o : Option Value) → bool_of o ≡ Some true → branches s goal o ≡ jumps s goal
 branches_true s goal o h = ap (branches s goal) (truth o true h)

@@ -12,7 +12,7 @@ use Rattle.op_forms.specs.declared.world.World.{World}
 use Rattle.op_forms.specs.Answers.{Answer}
 use Rattle.op_forms.specs.Doing.{Bind, changed_by}
 use Rattle.c_meaning.specs.declared.code.Code.{Code}
-use Rattle.c_meaning.specs.State.{State}
+use Rattle.c_meaning.specs.State.{State, jumps, next, undefined}
 use Rattle.c_meaning.specs.Step.{operates, values}
 use Rattle.c_meaning.specs.declared.program.Argument.{Argument}
 use Rattle.op_rules.specs.TableRules.{table_rules}
@@ -26,6 +26,12 @@ bool_of other = None
 abbrev pub int_of : Option Value → Option ℤ
 int_of (Some (value.Int z)) = Some z
 int_of other = None
+
+-- a branch by the bool of its operand, if that has one
+abbrev pub branched : State → Option ℕ → Option Bool → Stepped State
+branched s goal (Some true) = jumps s goal
+branched s goal (Some false) = next s
+branched s goal None = undefined s
 
 -- the truth value of what is no object
 abbrev pub truth_of : Option Value → Option Bool

@@ -7,6 +7,7 @@ ghost use Rattle.nu_value.specs.View.{is_text};
 ghost use Rattle.c_meaning.specs.declared.code.Code as code;
 ghost use Rattle.c_meaning.specs.Step as meaning;
 ghost use Rattle.c_meaning.specs.State as states;
+ghost use Rattle.c_machine.specs.InPlace.{branched};
 ghost use Rattle.c_machine.specs.Standing.{Outside, state_of, follows};
 ghost use Rattle.c_machine.specs.Light.{is_light_store};
 ghost use Rattle.c_machine.specs.Values.{takes_text, is_operated, names_function};
@@ -118,17 +119,17 @@ impl Execution {
     }
 
     #[inline(never)]
-    pub(crate) fn branch(&mut self, goal: Option<u64>, test: Option<Value>) -> Option<CEnd>
+    pub(crate) fn branch(&mut self, goal: Option<u64>, test: Option<bool>) -> Option<CEnd>
         requires { self.old.place + 1 < 2 ^ 64 }
-        ensures { (w : Outside) → meaning.branches (state_of self.old w) goal test ≡ follows result self.new w }
+        ensures { (w : Outside) → branched (state_of self.old w) goal test ≡ follows result self.new w }
     {
         match test {
-            Some(Value::Bool(true)) => self.jump(goal),
-            Some(Value::Bool(false)) => {
+            Some(true) => self.jump(goal),
+            Some(false) => {
                 self.place += 1;
                 None
             }
-            _ => self.undefined(),
+            None => self.undefined(),
         }
     }
 

@@ -3,7 +3,6 @@
 ghost use Rattle.std.specs.Prelude.{◌≡◌, ◌+◌, ◌<◌, ◌≤◌, ◌^◌, [], ℕ, List, Option, OnSome, Some, None, true, false, slice_get, option_copied};
 ghost use Rattle.op_forms.specs.declared.op.Op.TheVariants as op;
 ghost use Rattle.op_rules.specs.TableRules.{table_rules};
-ghost use Rattle.c_meaning.specs.declared.program.Operand.TheVariants as operand;
 ghost use Rattle.c_meaning.specs.Step as meaning;
 ghost use Rattle.c_meaning.specs.State as states;
 ghost use Rattle.nu_run.specs.Steps.{More};
@@ -16,8 +15,7 @@ use crate::binding::{set_found, set_global};
 use crate::execution::Execution;
 use crate::lookup::Hint;
 use crate::values::{
-    bool_at, bool_in, compared, found_value, global_value, held_by, numbers_value, register_truth,
-    truth_value, value_of,
+    bool_at, compared, found_value, global_value, held_by, numbers_value, truth_value, value_of,
 };
 use c_meaning::{Argument, Code, Operand, Placed, Statement, Stored};
 use nu_value::Value;
@@ -77,23 +75,6 @@ impl Execution {
     #[inline(never)]
     #[tactic(auto, using(crate::proofs::InPlace::operates_on, crate::proofs::Places::stays_behind))]
     fn tests(&mut self, to: u64, arguments: &[Argument]) -> bool
-        requires { self.old.place + 1 < 2 ^ 64 }
-        ensures goes { result ≡ true → Operated op.Truth to arguments.now self.old self.new }
-        ensures same { result ≡ false → self.new ≡ self.old }
-        ensures stays { Stays self.old self.new }
-    {
-        match register_truth(&self.registers, &self.world, arguments) {
-            Some(truth) => {
-                self.advance(to, Value::Bool(truth));
-                true
-            }
-            None => self.tests_other(to, arguments),
-        }
-    }
-
-    #[inline(never)]
-    #[tactic(auto, using(crate::proofs::InPlace::operates_on, crate::proofs::Places::stays_behind))]
-    fn tests_other(&mut self, to: u64, arguments: &[Argument]) -> bool
         requires { self.old.place + 1 < 2 ^ 64 }
         ensures goes { result ≡ true → Operated op.Truth to arguments.now self.old self.new }
         ensures same { result ≡ false → self.new ≡ self.old }
@@ -315,29 +296,10 @@ impl Execution {
         }
     }
 
-    // The bool of a register decides where the run goes on.
+    // The bool of an operand decides where the run goes on.
     #[inline]
     #[tactic(auto, using(crate::proofs::InPlace::branches_false, crate::proofs::Places::stays_alike))]
-    fn chooses_by(&mut self, goal: Option<u64>, register: u64) -> bool
-        requires { self.old.place + 1 < 2 ^ 64 }
-        ensures goes { result ≡ true → GoesOn (λ c s. meaning.branches s goal (meaning.held self.old.registers (operand.Register register))) self.old self.new }
-        ensures same { result ≡ false → self.new ≡ self.old }
-        ensures stays { Stays self.old self.new }
-    {
-        match bool_in(&self.registers, register) {
-            Some(true) => self.leaps(goal),
-            Some(false) => {
-                self.place += 1;
-                true
-            }
-            None => false,
-        }
-    }
-
-    #[cold]
-    #[inline(never)]
-    #[tactic(auto, using(crate::proofs::InPlace::branches_false, crate::proofs::Places::stays_alike))]
-    fn chooses_any(&mut self, goal: Option<u64>, test: &Operand) -> bool
+    fn chooses(&mut self, goal: Option<u64>, test: &Operand) -> bool
         requires { self.old.place + 1 < 2 ^ 64 }
         ensures goes { result ≡ true → GoesOn (λ c s. meaning.branches s goal (meaning.held self.old.registers test.now)) self.old self.new }
         ensures same { result ≡ false → self.new ≡ self.old }
@@ -351,19 +313,6 @@ impl Execution {
             }
             None => false,
         }
-    }
-
-    #[inline]
-    fn chooses(&mut self, goal: Option<u64>, test: &Operand) -> bool
-        requires { self.old.place + 1 < 2 ^ 64 }
-        ensures goes { result ≡ true → GoesOn (λ c s. meaning.branches s goal (meaning.held self.old.registers test.now)) self.old self.new }
-        ensures same { result ≡ false → self.new ≡ self.old }
-        ensures stays { Stays self.old self.new }
-    {
-        if let Operand::Register(register) = test {
-            return self.chooses_by(goal, *register);
-        }
-        self.chooses_any(goal, test)
     }
 
     // Takes a statement; where that isn't done in place, nothing has changed.
@@ -393,7 +342,7 @@ impl Execution {
 
     // The statements of the function that runs.
     #[inline]
-    fn statements<'a>(&self, code: &'a Code) -> &'a [Placed]
+    pub(crate) fn statements<'a>(&self, code: &'a Code) -> &'a [Placed]
         ensures { (n : ℕ) → slice_get result.now n ≡ meaning.placed_in (slice_get code.now.bodies self.now.function) n }
     {
         match code.bodies.get(self.function as usize) {
@@ -425,9 +374,9 @@ impl Execution {
     }
 }
 
-// The statement at a place, if there is one.
+/// The statement at a place, if there is one.
 #[inline]
-fn statement_at(statements: &[Placed], place: u64) -> Option<&Placed>
+pub(crate) fn statement_at(statements: &[Placed], place: u64) -> Option<&Placed>
     ensures value { option_copied result ≡ slice_get statements.now place }
     ensures small { OnSome result (place + 1 < 2 ^ 64) }
 {

@@ -12,6 +12,8 @@ ghost use Rattle.c_machine.specs.Values.{is_operation};
 use crate::ending::Trouble;
 use crate::execution::{Execution, held};
 use crate::operation::Site;
+use crate::quick::statement_at;
+use crate::values::bool_at;
 use c_meaning::{CEnd, Code, Placed, Statement, Stored};
 use nu_base::Sink;
 use nu_value::Items;
@@ -24,16 +26,11 @@ impl Execution {
         ensures value { option_copied result ≡ placed_for code.now self.now }
         ensures small { OnSome result (self.now.place + 1 < 2 ^ 64) }
     {
-        let statements = &code.bodies.get(self.function as usize)?.statements;
-        if self.place < statements.len() as u64 {
-            statements.get(self.place as usize)
-        } else {
-            None
-        }
+        statement_at(self.statements(code), self.place)
     }
 
     // A statement that is no operation.
-    #[tactic(auto, using(crate::proofs::Modules::saves_module, crate::proofs::Modules::pauses_module))]
+    #[tactic(auto, using(crate::proofs::Modules::saves_module, crate::proofs::Modules::pauses_module, crate::proofs::InPlace::branches_by))]
     fn act(
         &mut self,
         alloc: Global,
@@ -49,7 +46,7 @@ impl Execution {
             Statement::Store { to, what } => self.stored(*to, what),
             Statement::Goto(_) => Ok(self.jump(placed.goal)),
             Statement::Branch { test, .. } => {
-                let test = held(&self.registers, test)?;
+                let test = bool_at(&self.registers, test);
                 Ok(self.branch(placed.goal, test))
             }
             Statement::Again { exception, .. } => {

@@ -17,23 +17,22 @@ fn push_number(text: &mut String, number: u32) -> Result<(), AllocError>
     write!(text, "{number}")
 }
 
-fn entry_text(alloc: Global, file: &str, entry: &Entry) -> Result<String, AllocError>
-    ensures { IfOk result (λ text. string_bytes text ≡ spec.entry_text file.now entry.now) }
+// The line of an entry.
+fn push_line(text: &mut String, file: &str, entry: &Entry) -> Result<(), AllocError>
+    ensures { OnOk result (string_bytes text.new ≡ string_bytes text.old ++ spec.entry_text file.now entry.now) }
 {
-    let mut text = String::from_str(alloc, "  File \"")?;
+    text.push_str("  File \"")?;
     text.push_str(file)?;
     text.push_str("\", line ")?;
-    push_number(&mut text, entry.line)?;
+    push_number(text, entry.line)?;
     text.push_str(", in ")?;
     text.push_str(entry.scope.as_str())?;
-    text.push_str("\n")?;
-    Ok(text)
+    text.push_str("\n")
 }
 
 // The line of the entry at a place, if there is one.
 #[tactic(auto, using(crate::proofs::Traces::entries_end))]
 fn push_entry(
-    alloc: Global,
     text: &mut String,
     file: &str,
     entries: &Entries,
@@ -42,24 +41,16 @@ fn push_entry(
     ensures { OnOk result (string_bytes text.new ≡ string_bytes text.old ++ text_at file.now (slice_get entries.now place)) }
 {
     match entries.get(place) {
-        Some(entry) => {
-            let line = entry_text(alloc, file, entry)?;
-            text.push_str(line.as_str())
-        }
+        Some(entry) => push_line(text, file, entry),
         None => Ok(()),
     }
 }
 
-fn push_entries(
-    alloc: Global,
-    text: &mut String,
-    file: &str,
-    entries: &Entries,
-) -> Result<(), AllocError>
+fn push_entries(text: &mut String, file: &str, entries: &Entries) -> Result<(), AllocError>
     ensures { OnOk result (string_bytes text.new ≡ string_bytes text.old ++ spec.entries_text file.now entries.now) }
 {
     for place in 0..entries.len() {
-        push_entry(alloc, text, file, entries, place)?;
+        push_entry(text, file, entries, place)?;
     }
     Ok(())
 }
@@ -79,7 +70,7 @@ fn head_text(alloc: Global, file: &str, heap: &Heap, exception: u64) -> Result<S
 {
     let mut text = String::from_str(alloc, "Traceback (most recent call last):\n")?;
     if let Some(Object::Exception { class, entries, .. }) = heap.get(exception) {
-        push_entries(alloc, &mut text, file, entries)?;
+        push_entries(&mut text, file, entries)?;
         text.push_str(class_name(heap, *class))?;
     }
     Ok(text)

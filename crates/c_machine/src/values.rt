@@ -1,6 +1,6 @@
 //! What operations give that change no object, and what operands hold, without the table.
 
-ghost use Rattle.std.specs.Prelude.{◌≡◌, ◌+◌, ◌<◌, ◌^◌, ◌∷◌, [], ℕ, List, Option, Some, None, IfSome, true, false};
+ghost use Rattle.std.specs.Prelude.{◌≡◌, ◌+◌, ◌<◌, ◌^◌, ◌∷◌, [], ℕ, List, Option, Some, None, IfSome, true, false, not};
 ghost use Rattle.nu_value.specs.declared.value.Value.TheVariants as value;
 ghost use Rattle.op_forms.specs.declared.end.OpEnd.TheVariants as opend;
 ghost use Rattle.op_forms.specs.declared.op.Op.TheVariants as op;
@@ -102,16 +102,28 @@ fn truth_in(registers: &Slots, register: u64) -> Option<bool>
 }
 
 // The truth value of an operand that is no text and no object.
+#[inline]
 fn truth_at(registers: &Slots, operand: &Operand) -> Option<bool>
     ensures { result ≡ truth_of (meaning.held registers.now operand.now) }
 {
+    if let Operand::Register(register) = operand {
+        return truth_in(registers, *register);
+    }
+    written_truth(operand)
+}
+
+// The truth value of what is written as an operand and is no text.
+#[cold]
+#[inline(never)]
+fn written_truth(operand: &Operand) -> Option<bool>
+    ensures { result ≡ truth_of (meaning.held [] operand.now) }
+{
     match operand {
-        Operand::Register(register) => truth_in(registers, *register),
         Operand::None => Some(false),
         Operand::True => Some(true),
         Operand::False => Some(false),
         Operand::Int(number) => Some(*number != 0),
-        Operand::Str(_) => None,
+        _ => None,
     }
 }
 
@@ -290,22 +302,6 @@ pub(crate) fn compared(
     }
 }
 
-/// The truth value of an argument that is a register, if that has no text and no object.
-#[inline]
-#[tactic(auto, using(crate::proofs::InPlace::truth_answered))]
-pub(crate) fn register_truth(
-    registers: &Slots,
-    world: &World,
-    arguments: &[Argument],
-) -> Option<bool>
-    ensures { IfSome result (λ t. answered world.now op.Truth (meaning.values registers.now arguments.now) ≡ Some (given world.now.heap (value.Bool t))) }
-{
-    let [Argument::Value(Operand::Register(register))] = arguments else {
-        return None;
-    };
-    truth_in(registers, *register)
-}
-
 /// The truth value of an argument that is no text and no object.
 #[inline]
 #[tactic(auto, using(crate::proofs::InPlace::truth_answered))]
@@ -362,34 +358,18 @@ fn known(registers: &Slots, count: u64, argument: &Argument) -> Option<Value>
 
 // Whether two values are identical.
 #[inline(never)]
-#[tactic(auto, using(crate::proofs::InPlace::is_answered))]
-fn is_value(registers: &Slots, world: &World, arguments: &[Argument]) -> Option<Value>
-    ensures { IfSome result (λ v. answered world.now op.Is (meaning.values registers.now arguments.now) ≡ Some (given world.now.heap v)) }
+#[tactic(auto, using(crate::proofs::InPlace::is_answered, crate::proofs::InPlace::isnot_answered))]
+fn identical(registers: &Slots, world: &World, arguments: &[Argument]) -> Option<bool>
+    ensures same { IfSome result (λ t. answered world.now op.Is (meaning.values registers.now arguments.now) ≡ Some (given world.now.heap (value.Bool t))) }
+    ensures other { IfSome result (λ t. answered world.now op.IsNot (meaning.values registers.now arguments.now) ≡ Some (given world.now.heap (value.Bool (not t)))) }
 {
     let [a, b] = arguments else {
         return None;
     };
     let count = world.heap.len();
-    match (known(registers, count, a), known(registers, count, b)) {
-        (Some(x), Some(y)) => Some(Value::Bool(x.is_identical(&y))),
-        _ => None,
-    }
-}
-
-// Whether two values aren't identical.
-#[inline(never)]
-#[tactic(auto, using(crate::proofs::InPlace::isnot_answered))]
-fn isnot_value(registers: &Slots, world: &World, arguments: &[Argument]) -> Option<Value>
-    ensures { IfSome result (λ v. answered world.now op.IsNot (meaning.values registers.now arguments.now) ≡ Some (given world.now.heap v)) }
-{
-    let [a, b] = arguments else {
-        return None;
-    };
-    let count = world.heap.len();
-    match (known(registers, count, a), known(registers, count, b)) {
-        (Some(x), Some(y)) => Some(Value::Bool(!x.is_identical(&y))),
-        _ => None,
-    }
+    let x = known(registers, count, a)?;
+    let y = known(registers, count, b)?;
+    Some(x.is_identical(&y))
 }
 
 /// The value of a name, for the statement at this place.
@@ -454,8 +434,14 @@ pub(crate) fn value_of(
 {
     match op {
         Op::Not => not_value(registers, world, arguments),
-        Op::Is => is_value(registers, world, arguments),
-        Op::IsNot => isnot_value(registers, world, arguments),
+        Op::Is => match identical(registers, world, arguments) {
+            Some(same) => Some(Value::Bool(same)),
+            None => None,
+        },
+        Op::IsNot => match identical(registers, world, arguments) {
+            Some(same) => Some(Value::Bool(!same)),
+            None => None,
+        },
         _ => numbers_value(registers, world, op, arguments),
     }
 }

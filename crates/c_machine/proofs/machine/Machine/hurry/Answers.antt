@@ -3,7 +3,6 @@ use Rattle.nu_run.specs.Steps.{More}
 use Rattle.op_rules.specs.TableRules.{table_rules}
 use Rattle.c_meaning.specs.State.{printed_in}
 use Rattle.c_meaning.specs.Step.{step}
-use Rattle.c_machine.specs.Machines.{Seen}
 use Rattle.c_machine.specs.Standing.{state_of}
 use Rattle.c_machine.specs.Walks.{Leads}
 use Rattle.c_machine.proofs.machine.Machine.hurry.Goals as goal
