@@ -1,18 +1,22 @@
 //! What the parser of expressions reads without calling itself: a cursor over tokens, the levels, comparisons, the order of
-//! arguments and of parameters, and lists of parts. Nothing here lets go of an expression.
+//! arguments and of parameters; and, over a parser of what is nested in them, the parts of lists, and slices.
 #![tactic(auto)]
 
 mod comparison;
 mod cursor;
+mod nested;
 mod nodes;
 mod order;
+mod parts;
 mod role;
+mod slices;
 
 pub use comparison::comparator;
 pub use cursor::Cursor;
+pub use nested::Nested;
 pub use nodes::{
-    maybe_opened, only, opened, opened_argument, opened_clause, opened_entry, opened_item,
-    with_part,
+    alone, combined, maybe_opened, only, opened, opened_argument, opened_clause, opened_entry,
+    opened_item, tall, with_part,
 };
 pub use order::{arguments_in_order, params_in_order};
 pub use py_grammar::{Found, Mark, ParseEnd};

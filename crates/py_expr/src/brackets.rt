@@ -4,14 +4,13 @@ ghost use Rattle.std.specs.Prelude.{◌≡◌, ◌≤◌, length};
 ghost use Rattle.py_grammar.specs.Parse as spec;
 ghost use Rattle.py_grammar.specs.Parse.{Reads};
 ghost use Rattle.py_grammar.specs.Levels as level;
-ghost use Rattle.py_expr.specs.Nests.{Nests};
+ghost use Rattle.py_cursor.specs.Nests.{Nests};
 
 use crate::grammar::Grammar;
-use crate::nodes::tall;
 use py_ast::{Argument, Entry, Expr, Item, Sign, Subscript, Word};
 use py_cursor::{
     Cursor, EXPRESSION, arguments_in_order, begins_argument, begins_entry, begins_item, can_begin,
-    maybe_opened, only, opened, opened_argument, opened_entry, opened_item,
+    maybe_opened, only, opened, opened_argument, opened_entry, opened_item, tall,
 };
 use py_grammar::{Bracket, Found, Mark, ParseEnd, Row};
 use sqlite_items::{Boxed, Items};
@@ -37,23 +36,32 @@ impl<
         tokens: &mut Cursor<'_>,
         depth: u32,
     ) -> Result<Found<Boxed<Expr>>, ParseEnd>
-        requires { Nests self.now.fuel (F.pre self.now.again) (F.post self.now.again) }
-        ensures { Reads (spec.yields (spec.parse self.now.fuel) self.now.fuel depth tokens.old) result tokens.new }
+        requires { Nests self.now.nested.fuel (F.pre self.now.nested.again) (F.post self.now.nested.again) }
+        ensures { Reads (spec.yields (spec.parse self.now.nested.fuel) self.now.nested.fuel depth tokens.old) result tokens.new }
     {
         let line = tokens.take();
         if tokens.sees_word(Word::From) {
             tokens.take();
-            let x = self.again(tokens, EXPRESSION, depth.saturating_sub(1))?;
+            let x = self
+                .nested
+                .again(tokens, EXPRESSION, depth.saturating_sub(1))?;
             let tree = Expr::YieldFrom(line, x.tree);
-            return tall(self.alloc, tokens, line, depth, x.height, tree);
+            return tall(self.nested.alloc, tokens, line, depth, x.height, tree);
         }
         if !begins_item(Row::Expressions, tokens.mark()) {
-            return tall(self.alloc, tokens, line, depth, 0, Expr::Yield(line, None));
+            return tall(
+                self.nested.alloc,
+                tokens,
+                line,
+                depth,
+                0,
+                Expr::Yield(line, None),
+            );
         }
         let start = tokens.line();
         let x = self.row_of(tokens, start, Row::Expressions, depth.saturating_sub(1))?;
         let tree = Expr::Yield(line, Some(x.tree));
-        tall(self.alloc, tokens, line, depth, x.height, tree)
+        tall(self.nested.alloc, tokens, line, depth, x.height, tree)
     }
 
     /// A generator expression, behind its element.
@@ -64,8 +72,8 @@ impl<
         depth: u32,
         element: Found<Item<Boxed<Expr>>>,
     ) -> Result<Found<Boxed<Expr>>, ParseEnd>
-        requires { Nests self.now.fuel (F.pre self.now.again) (F.post self.now.again) }
-        ensures { Reads (spec.generator (spec.parse self.now.fuel) self.now.fuel line depth element.height element.tree tokens.old) result tokens.new }
+        requires { Nests self.now.nested.fuel (F.pre self.now.nested.again) (F.post self.now.nested.again) }
+        ensures { Reads (spec.generator (spec.parse self.now.nested.fuel) self.now.nested.fuel line depth element.height element.tree tokens.old) result tokens.new }
     {
         let Found { tree, height } = element;
         match tree {
@@ -73,7 +81,7 @@ impl<
                 let clauses = self.comprehension(tokens, depth.saturating_sub(1))?;
                 let height = height.max(clauses.height);
                 let tree = Expr::Generator(line, x, clauses.tree);
-                tall(self.alloc, tokens, line, depth, height, tree)
+                tall(self.nested.alloc, tokens, line, depth, height, tree)
             }
             Item::Star(_, _) => Err(tokens.refuse()),
         }
@@ -87,17 +95,24 @@ impl<
         line: u32,
         depth: u32,
     ) -> Result<Found<Boxed<Expr>>, ParseEnd>
-        requires { Nests self.now.fuel (F.pre self.now.again) (F.post self.now.again) }
-        ensures { Reads (spec.round (spec.parse self.now.fuel) self.now.fuel line depth tokens.old) result tokens.new }
+        requires { Nests self.now.nested.fuel (F.pre self.now.nested.again) (F.post self.now.nested.again) }
+        ensures { Reads (spec.round (spec.parse self.now.nested.fuel) self.now.nested.fuel line depth tokens.old) result tokens.new }
     {
         match tokens.mark() {
             Mark::Sign(Sign::RightParen) => {
-                let none = Items::new(self.alloc);
-                tall(self.alloc, tokens, line, depth, 0, Expr::Tuple(line, none))
+                let none = Items::new(self.nested.alloc);
+                tall(
+                    self.nested.alloc,
+                    tokens,
+                    line,
+                    depth,
+                    0,
+                    Expr::Tuple(line, none),
+                )
             }
             Mark::Keyword(Word::Yield) => self.yields(tokens, depth),
             _ => {
-                let first = self.item(tokens, Row::Expressions, depth)?;
+                let first = self.nested.item(tokens, Row::Expressions, depth)?;
                 if tokens.sees_word(Word::For) {
                     return self.generator(tokens, line, depth, first);
                 }
@@ -114,8 +129,8 @@ impl<
         depth: u32,
         element: Found<Item<Boxed<Expr>>>,
     ) -> Result<Found<Boxed<Expr>>, ParseEnd>
-        requires { Nests self.now.fuel (F.pre self.now.again) (F.post self.now.again) }
-        ensures { Reads (spec.list_of (spec.parse self.now.fuel) self.now.fuel line depth element.height element.tree tokens.old) result tokens.new }
+        requires { Nests self.now.nested.fuel (F.pre self.now.nested.again) (F.post self.now.nested.again) }
+        ensures { Reads (spec.list_of (spec.parse self.now.nested.fuel) self.now.nested.fuel line depth element.height element.tree tokens.old) result tokens.new }
     {
         let Found { tree, height } = element;
         match tree {
@@ -123,7 +138,7 @@ impl<
                 let clauses = self.comprehension(tokens, depth.saturating_sub(1))?;
                 let height = height.max(clauses.height);
                 let tree = Expr::ListComprehension(line, x, clauses.tree);
-                tall(self.alloc, tokens, line, depth, height, tree)
+                tall(self.nested.alloc, tokens, line, depth, height, tree)
             }
             Item::Star(_, _) => Err(tokens.refuse()),
         }
@@ -138,16 +153,16 @@ impl<
         depth: u32,
         first: Found<Item<Boxed<Expr>>>,
     ) -> Result<Found<Boxed<Expr>>, ParseEnd>
-        requires { Nests self.now.fuel (F.pre self.now.again) (F.post self.now.again) }
-        ensures { Reads (spec.square_behind (spec.parse self.now.fuel) self.now.fuel line depth first tokens.old) result tokens.new }
+        requires { Nests self.now.nested.fuel (F.pre self.now.nested.again) (F.post self.now.nested.again) }
+        ensures { Reads (spec.square_behind (spec.parse self.now.nested.fuel) self.now.nested.fuel line depth first tokens.old) result tokens.new }
     {
         if tokens.sees_word(Word::For) {
             return self.list_of(tokens, line, depth, first);
         }
-        let list = only(self.alloc, opened_item(first))?;
+        let list = only(self.nested.alloc, opened_item(first))?;
         let items = self.items_behind(tokens, Row::Expressions, depth.saturating_sub(1), list)?;
         tall(
-            self.alloc,
+            self.nested.alloc,
             tokens,
             line,
             depth,
@@ -164,14 +179,23 @@ impl<
         line: u32,
         depth: u32,
     ) -> Result<Found<Boxed<Expr>>, ParseEnd>
-        requires { Nests self.now.fuel (F.pre self.now.again) (F.post self.now.again) }
-        ensures { Reads (spec.square (spec.parse self.now.fuel) self.now.fuel line depth tokens.old) result tokens.new }
+        requires { Nests self.now.nested.fuel (F.pre self.now.nested.again) (F.post self.now.nested.again) }
+        ensures { Reads (spec.square (spec.parse self.now.nested.fuel) self.now.nested.fuel line depth tokens.old) result tokens.new }
     {
         if !begins_item(Row::Expressions, tokens.mark()) {
-            let none = Items::new(self.alloc);
-            return tall(self.alloc, tokens, line, depth, 0, Expr::List(line, none));
+            let none = Items::new(self.nested.alloc);
+            return tall(
+                self.nested.alloc,
+                tokens,
+                line,
+                depth,
+                0,
+                Expr::List(line, none),
+            );
         }
-        let first = self.item(tokens, Row::Expressions, depth.saturating_sub(1))?;
+        let first = self
+            .nested
+            .item(tokens, Row::Expressions, depth.saturating_sub(1))?;
         self.square_behind(tokens, line, depth, first)
     }
 
@@ -183,8 +207,8 @@ impl<
         depth: u32,
         element: Found<Entry<Boxed<Expr>>>,
     ) -> Result<Found<Boxed<Expr>>, ParseEnd>
-        requires { Nests self.now.fuel (F.pre self.now.again) (F.post self.now.again) }
-        ensures { Reads (spec.dict_of (spec.parse self.now.fuel) self.now.fuel line depth element.height element.tree tokens.old) result tokens.new }
+        requires { Nests self.now.nested.fuel (F.pre self.now.nested.again) (F.post self.now.nested.again) }
+        ensures { Reads (spec.dict_of (spec.parse self.now.nested.fuel) self.now.nested.fuel line depth element.height element.tree tokens.old) result tokens.new }
     {
         let Found { tree, height } = element;
         match tree {
@@ -192,7 +216,7 @@ impl<
                 let clauses = self.comprehension(tokens, depth.saturating_sub(1))?;
                 let height = height.max(clauses.height);
                 let tree = Expr::DictComprehension(line, key, value, clauses.tree);
-                tall(self.alloc, tokens, line, depth, height, tree)
+                tall(self.nested.alloc, tokens, line, depth, height, tree)
             }
             Entry::Merge(_) => Err(tokens.refuse()),
         }
@@ -207,16 +231,16 @@ impl<
         depth: u32,
         first: Found<Entry<Boxed<Expr>>>,
     ) -> Result<Found<Boxed<Expr>>, ParseEnd>
-        requires { Nests self.now.fuel (F.pre self.now.again) (F.post self.now.again) }
-        ensures { Reads (spec.curly_behind (spec.parse self.now.fuel) self.now.fuel line depth first tokens.old) result tokens.new }
+        requires { Nests self.now.nested.fuel (F.pre self.now.nested.again) (F.post self.now.nested.again) }
+        ensures { Reads (spec.curly_behind (spec.parse self.now.nested.fuel) self.now.nested.fuel line depth first tokens.old) result tokens.new }
     {
         if tokens.sees_word(Word::For) {
             return self.dict_of(tokens, line, depth, first);
         }
-        let list = only(self.alloc, opened_entry(first))?;
+        let list = only(self.nested.alloc, opened_entry(first))?;
         let entries = self.entries_behind(tokens, depth.saturating_sub(1), list)?;
         tall(
-            self.alloc,
+            self.nested.alloc,
             tokens,
             line,
             depth,
@@ -233,14 +257,21 @@ impl<
         line: u32,
         depth: u32,
     ) -> Result<Found<Boxed<Expr>>, ParseEnd>
-        requires { Nests self.now.fuel (F.pre self.now.again) (F.post self.now.again) }
-        ensures { Reads (spec.curly (spec.parse self.now.fuel) self.now.fuel line depth tokens.old) result tokens.new }
+        requires { Nests self.now.nested.fuel (F.pre self.now.nested.again) (F.post self.now.nested.again) }
+        ensures { Reads (spec.curly (spec.parse self.now.nested.fuel) self.now.nested.fuel line depth tokens.old) result tokens.new }
     {
         if !begins_entry(tokens.mark()) {
-            let none = Items::new(self.alloc);
-            return tall(self.alloc, tokens, line, depth, 0, Expr::Dict(line, none));
+            let none = Items::new(self.nested.alloc);
+            return tall(
+                self.nested.alloc,
+                tokens,
+                line,
+                depth,
+                0,
+                Expr::Dict(line, none),
+            );
         }
-        let first = self.entry(tokens, depth.saturating_sub(1))?;
+        let first = self.nested.entry(tokens, depth.saturating_sub(1))?;
         self.curly_behind(tokens, line, depth, first)
     }
 
@@ -252,8 +283,8 @@ impl<
         bracket: Bracket,
         depth: u32,
     ) -> Result<Found<Boxed<Expr>>, ParseEnd>
-        requires { Nests self.now.fuel (F.pre self.now.again) (F.post self.now.again) }
-        ensures { Reads (spec.bracketed (spec.parse self.now.fuel) self.now.fuel bracket depth tokens.old) result tokens.new }
+        requires { Nests self.now.nested.fuel (F.pre self.now.nested.again) (F.post self.now.nested.again) }
+        ensures { Reads (spec.bracketed (spec.parse self.now.nested.fuel) self.now.nested.fuel bracket depth tokens.old) result tokens.new }
     {
         let line = tokens.take();
         let x = match bracket {
@@ -273,8 +304,8 @@ impl<
         depth: u32,
         element: Found<Argument<Boxed<Expr>>>,
     ) -> Result<Found<Items<Argument<Expr>>>, ParseEnd>
-        requires { Nests self.now.fuel (F.pre self.now.again) (F.post self.now.again) }
-        ensures { Reads (spec.lone_generator (spec.parse self.now.fuel) self.now.fuel line depth element.height element.tree tokens.old) result tokens.new }
+        requires { Nests self.now.nested.fuel (F.pre self.now.nested.again) (F.post self.now.nested.again) }
+        ensures { Reads (spec.lone_generator (spec.parse self.now.nested.fuel) self.now.nested.fuel line depth element.height element.tree tokens.old) result tokens.new }
     {
         let Found { tree, height } = element;
         match tree {
@@ -282,12 +313,12 @@ impl<
                 let clauses = self.comprehension(tokens, depth.saturating_sub(1))?;
                 let height = height.max(clauses.height);
                 let tree = Expr::Generator(line, x, clauses.tree);
-                let found = tall(self.alloc, tokens, line, depth, height, tree)?;
+                let found = tall(self.nested.alloc, tokens, line, depth, height, tree)?;
                 let part = Found {
                     tree: Argument::Plain(found.tree.into_inner()),
                     height: found.height,
                 };
-                Ok(only(self.alloc, part)?)
+                Ok(only(self.nested.alloc, part)?)
             }
             _ => Err(tokens.refuse()),
         }
@@ -302,13 +333,13 @@ impl<
         depth: u32,
         first: Found<Argument<Boxed<Expr>>>,
     ) -> Result<Found<Items<Argument<Expr>>>, ParseEnd>
-        requires { Nests self.now.fuel (F.pre self.now.again) (F.post self.now.again) }
-        ensures { Reads (spec.arguments_behind (spec.parse self.now.fuel) self.now.fuel line depth first tokens.old) result tokens.new }
+        requires { Nests self.now.nested.fuel (F.pre self.now.nested.again) (F.post self.now.nested.again) }
+        ensures { Reads (spec.arguments_behind (spec.parse self.now.nested.fuel) self.now.nested.fuel line depth first tokens.old) result tokens.new }
     {
         if tokens.sees_word(Word::For) {
             return self.lone_generator(tokens, line, depth, first);
         }
-        let list = only(self.alloc, opened_argument(first))?;
+        let list = only(self.nested.alloc, opened_argument(first))?;
         let arguments = self.arguments_tail(tokens, depth, list)?;
         if !arguments_in_order(arguments.tree.as_slice()) {
             return Err(tokens.refuse());
@@ -323,85 +354,18 @@ impl<
         tokens: &mut Cursor<'_>,
         depth: u32,
     ) -> Result<Found<Items<Argument<Expr>>>, ParseEnd>
-        requires { Nests self.now.fuel (F.pre self.now.again) (F.post self.now.again) }
-        ensures { Reads (spec.arguments (spec.parse self.now.fuel) self.now.fuel depth tokens.old) result tokens.new }
+        requires { Nests self.now.nested.fuel (F.pre self.now.nested.again) (F.post self.now.nested.again) }
+        ensures { Reads (spec.arguments (spec.parse self.now.nested.fuel) self.now.nested.fuel depth tokens.old) result tokens.new }
     {
         if !begins_argument(tokens.mark()) {
             return Ok(Found {
-                tree: Items::new(self.alloc),
+                tree: Items::new(self.nested.alloc),
                 height: 0,
             });
         }
         let line = tokens.line();
-        let first = self.argument(tokens, depth)?;
+        let first = self.nested.argument(tokens, depth)?;
         self.arguments_behind(tokens, line, depth, first)
-    }
-
-    /// A bound of a slice, if one is written.
-    #[tactic(auto, unfolding(py_grammar::specs::Parse::bound))]
-    pub fn bound(
-        &self,
-        tokens: &mut Cursor<'_>,
-        depth: u32,
-    ) -> Result<Found<Option<Boxed<Expr>>>, ParseEnd>
-        requires { Nests self.now.fuel (F.pre self.now.again) (F.post self.now.again) }
-        ensures { Reads (spec.bound (spec.parse self.now.fuel) self.now.fuel depth tokens.old) result tokens.new }
-    {
-        if !can_begin(EXPRESSION, tokens.mark()) {
-            return Ok(Found {
-                tree: None,
-                height: 0,
-            });
-        }
-        let x = self.again(tokens, EXPRESSION, depth)?;
-        Ok(Found {
-            tree: Some(x.tree),
-            height: x.height,
-        })
-    }
-
-    /// The step of a slice, if one is written.
-    #[tactic(auto, unfolding(py_grammar::specs::Parse::step))]
-    pub fn step(
-        &self,
-        tokens: &mut Cursor<'_>,
-        depth: u32,
-    ) -> Result<Found<Option<Boxed<Expr>>>, ParseEnd>
-        requires { Nests self.now.fuel (F.pre self.now.again) (F.post self.now.again) }
-        ensures { Reads (spec.step (spec.parse self.now.fuel) self.now.fuel depth tokens.old) result tokens.new }
-    {
-        if !tokens.sees(Sign::Colon) {
-            return Ok(Found {
-                tree: None,
-                height: 0,
-            });
-        }
-        tokens.take();
-        self.bound(tokens, depth)
-    }
-
-    /// A slice (reference, section 6.3.3), behind its lower bound.
-    #[tactic(auto, unfolding(py_grammar::specs::Parse::slice))]
-    pub fn slice(
-        &self,
-        tokens: &mut Cursor<'_>,
-        depth: u32,
-        lower: Found<Option<Boxed<Expr>>>,
-    ) -> Result<Found<Boxed<Subscript<Expr>>>, ParseEnd>
-        requires { Nests self.now.fuel (F.pre self.now.again) (F.post self.now.again) }
-        ensures { Reads (spec.slice (spec.parse self.now.fuel) self.now.fuel depth lower tokens.old) result tokens.new }
-    {
-        tokens.take();
-        let upper = self.bound(tokens, depth)?;
-        let by = self.step(tokens, depth)?;
-        let height = lower.height.max(upper.height.max(by.height));
-        let lower = maybe_opened(lower.tree);
-        let upper = maybe_opened(upper.tree);
-        let by = maybe_opened(by.tree);
-        Ok(Found {
-            tree: Boxed::new(self.alloc, Subscript::Slice(lower, upper, by))?,
-            height,
-        })
     }
 
     /// What stands behind the first expression of a subscript.
@@ -412,14 +376,14 @@ impl<
         depth: u32,
         first: Found<Boxed<Expr>>,
     ) -> Result<Found<Boxed<Subscript<Expr>>>, ParseEnd>
-        requires { Nests self.now.fuel (F.pre self.now.again) (F.post self.now.again) }
-        ensures { Reads (spec.subscripts_behind (spec.parse self.now.fuel) self.now.fuel depth first tokens.old) result tokens.new }
+        requires { Nests self.now.nested.fuel (F.pre self.now.nested.again) (F.post self.now.nested.again) }
+        ensures { Reads (spec.subscripts_behind (spec.parse self.now.nested.fuel) self.now.nested.fuel depth first tokens.old) result tokens.new }
     {
         if tokens.sees(Sign::Comma) {
-            let list = only(self.alloc, opened(first))?;
+            let list = only(self.nested.alloc, opened(first))?;
             let all = self.indices_behind(tokens, depth, list)?;
             return Ok(Found {
-                tree: Boxed::new(self.alloc, Subscript::Several(all.tree))?,
+                tree: Boxed::new(self.nested.alloc, Subscript::Several(all.tree))?,
                 height: all.height,
             });
         }
@@ -428,10 +392,10 @@ impl<
                 tree: Some(first.tree),
                 height: first.height,
             };
-            return self.slice(tokens, depth, lower);
+            return self.nested.slice(tokens, depth, lower);
         }
         Ok(Found {
-            tree: Boxed::new(self.alloc, Subscript::One(first.tree.into_inner()))?,
+            tree: Boxed::new(self.nested.alloc, Subscript::One(first.tree.into_inner()))?,
             height: first.height,
         })
     }
@@ -443,17 +407,17 @@ impl<
         tokens: &mut Cursor<'_>,
         depth: u32,
     ) -> Result<Found<Boxed<Subscript<Expr>>>, ParseEnd>
-        requires { Nests self.now.fuel (F.pre self.now.again) (F.post self.now.again) }
-        ensures { Reads (spec.subscripts (spec.parse self.now.fuel) self.now.fuel depth tokens.old) result tokens.new }
+        requires { Nests self.now.nested.fuel (F.pre self.now.nested.again) (F.post self.now.nested.again) }
+        ensures { Reads (spec.subscripts (spec.parse self.now.nested.fuel) self.now.nested.fuel depth tokens.old) result tokens.new }
     {
         if tokens.sees(Sign::Colon) {
             let lower = Found {
                 tree: None,
                 height: 0,
             };
-            return self.slice(tokens, depth, lower);
+            return self.nested.slice(tokens, depth, lower);
         }
-        let first = self.again(tokens, EXPRESSION, depth)?;
+        let first = self.nested.again(tokens, EXPRESSION, depth)?;
         self.subscripts_behind(tokens, depth, first)
     }
 }

@@ -7,9 +7,7 @@
 mod brackets;
 mod grammar;
 mod lists;
-mod nodes;
 mod operations;
-mod parts;
 mod productions;
 
 pub use productions::{

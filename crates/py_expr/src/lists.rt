@@ -3,16 +3,15 @@
 ghost use Rattle.std.specs.Prelude.{◌≡◌, ◌≤◌, length};
 ghost use Rattle.py_grammar.specs.Parse as spec;
 ghost use Rattle.py_grammar.specs.Parse.{Reads};
-ghost use Rattle.py_expr.specs.Nests.{Nests};
+ghost use Rattle.py_cursor.specs.Nests.{Nests};
 ghost use Rattle.py_grammar.specs.Grammar.{Parts};
 
 use crate::grammar::Grammar;
-use crate::nodes::{alone, tall};
 use py_ast::{Argument, Clause, Clauses, Entry, Expr, Item, Link, Param, Sign, Word};
 use py_cursor::{
-    Cursor, DISJUNCTION, EXPRESSION, begins_argument, begins_clause, begins_entry, begins_item,
-    begins_param, can_begin, is_comparison, only, opened, opened_argument, opened_clause,
-    opened_entry, opened_item, params_in_order, role_of, with_part,
+    Cursor, DISJUNCTION, EXPRESSION, alone, begins_argument, begins_clause, begins_entry,
+    begins_item, begins_param, can_begin, is_comparison, only, opened, opened_argument,
+    opened_clause, opened_entry, opened_item, params_in_order, role_of, tall, with_part,
 };
 use py_grammar::{Found, Mark, ParseEnd, Row};
 use sqlite_items::{Boxed, Items};
@@ -28,17 +27,17 @@ impl<
         depth: u32,
         mut list: Found<Items<Item<Expr>>>,
     ) -> Result<Found<Items<Item<Expr>>>, ParseEnd>
-        requires { Nests self.now.fuel (F.pre self.now.again) (F.post self.now.again) }
-        ensures { Reads (spec.tail_from (spec.parse self.now.fuel) self.now.fuel (Parts.items row) (spec.item (spec.parse self.now.fuel) self.now.fuel row) depth self.now.fuel list tokens.old) result tokens.new }
+        requires { Nests self.now.nested.fuel (F.pre self.now.nested.again) (F.post self.now.nested.again) }
+        ensures { Reads (spec.tail_from (spec.parse self.now.nested.fuel) self.now.nested.fuel (Parts.items row) (spec.item (spec.parse self.now.nested.fuel) self.now.nested.fuel row) depth self.now.nested.fuel list tokens.old) result tokens.new }
     {
-        for _turn in 0..self.fuel {
+        for _turn in 0..self.nested.fuel {
             if !tokens.eat(Sign::Comma) {
                 return Ok(list);
             }
             if !begins_item(row, tokens.mark()) {
                 return Ok(list);
             }
-            let part = self.item(tokens, row, depth)?;
+            let part = self.nested.item(tokens, row, depth)?;
             list = with_part(list, opened_item(part))?;
         }
         Err(tokens.refuse())
@@ -50,17 +49,17 @@ impl<
         depth: u32,
         mut list: Found<Items<Argument<Expr>>>,
     ) -> Result<Found<Items<Argument<Expr>>>, ParseEnd>
-        requires { Nests self.now.fuel (F.pre self.now.again) (F.post self.now.again) }
-        ensures { Reads (spec.tail_from (spec.parse self.now.fuel) self.now.fuel Parts.arguments (spec.argument (spec.parse self.now.fuel) self.now.fuel) depth self.now.fuel list tokens.old) result tokens.new }
+        requires { Nests self.now.nested.fuel (F.pre self.now.nested.again) (F.post self.now.nested.again) }
+        ensures { Reads (spec.tail_from (spec.parse self.now.nested.fuel) self.now.nested.fuel Parts.arguments (spec.argument (spec.parse self.now.nested.fuel) self.now.nested.fuel) depth self.now.nested.fuel list tokens.old) result tokens.new }
     {
-        for _turn in 0..self.fuel {
+        for _turn in 0..self.nested.fuel {
             if !tokens.eat(Sign::Comma) {
                 return Ok(list);
             }
             if !begins_argument(tokens.mark()) {
                 return Ok(list);
             }
-            let part = self.argument(tokens, depth)?;
+            let part = self.nested.argument(tokens, depth)?;
             list = with_part(list, opened_argument(part))?;
         }
         Err(tokens.refuse())
@@ -72,17 +71,17 @@ impl<
         depth: u32,
         mut list: Found<Items<Entry<Expr>>>,
     ) -> Result<Found<Items<Entry<Expr>>>, ParseEnd>
-        requires { Nests self.now.fuel (F.pre self.now.again) (F.post self.now.again) }
-        ensures { Reads (spec.tail_from (spec.parse self.now.fuel) self.now.fuel Parts.entries (spec.entry (spec.parse self.now.fuel) self.now.fuel) depth self.now.fuel list tokens.old) result tokens.new }
+        requires { Nests self.now.nested.fuel (F.pre self.now.nested.again) (F.post self.now.nested.again) }
+        ensures { Reads (spec.tail_from (spec.parse self.now.nested.fuel) self.now.nested.fuel Parts.entries (spec.entry (spec.parse self.now.nested.fuel) self.now.nested.fuel) depth self.now.nested.fuel list tokens.old) result tokens.new }
     {
-        for _turn in 0..self.fuel {
+        for _turn in 0..self.nested.fuel {
             if !tokens.eat(Sign::Comma) {
                 return Ok(list);
             }
             if !begins_entry(tokens.mark()) {
                 return Ok(list);
             }
-            let part = self.entry(tokens, depth)?;
+            let part = self.nested.entry(tokens, depth)?;
             list = with_part(list, opened_entry(part))?;
         }
         Err(tokens.refuse())
@@ -94,17 +93,17 @@ impl<
         depth: u32,
         mut list: Found<Items<Param<Expr>>>,
     ) -> Result<Found<Items<Param<Expr>>>, ParseEnd>
-        requires { Nests self.now.fuel (F.pre self.now.again) (F.post self.now.again) }
-        ensures { Reads (spec.tail_from (spec.parse self.now.fuel) self.now.fuel Parts.params (spec.param (spec.parse self.now.fuel) self.now.fuel) depth self.now.fuel list tokens.old) result tokens.new }
+        requires { Nests self.now.nested.fuel (F.pre self.now.nested.again) (F.post self.now.nested.again) }
+        ensures { Reads (spec.tail_from (spec.parse self.now.nested.fuel) self.now.nested.fuel Parts.params (spec.param (spec.parse self.now.nested.fuel) self.now.nested.fuel) depth self.now.nested.fuel list tokens.old) result tokens.new }
     {
-        for _turn in 0..self.fuel {
+        for _turn in 0..self.nested.fuel {
             if !tokens.eat(Sign::Comma) {
                 return Ok(list);
             }
             if !begins_param(tokens.mark()) {
                 return Ok(list);
             }
-            let part = self.param(tokens, depth)?;
+            let part = self.nested.param(tokens, depth)?;
             list = with_part(list, part)?;
         }
         Err(tokens.refuse())
@@ -116,17 +115,17 @@ impl<
         depth: u32,
         mut list: Found<Items<Expr>>,
     ) -> Result<Found<Items<Expr>>, ParseEnd>
-        requires { Nests self.now.fuel (F.pre self.now.again) (F.post self.now.again) }
-        ensures { Reads (spec.tail_from (spec.parse self.now.fuel) self.now.fuel Parts.indices (spec.parse self.now.fuel 1) depth self.now.fuel list tokens.old) result tokens.new }
+        requires { Nests self.now.nested.fuel (F.pre self.now.nested.again) (F.post self.now.nested.again) }
+        ensures { Reads (spec.tail_from (spec.parse self.now.nested.fuel) self.now.nested.fuel Parts.indices (spec.parse self.now.nested.fuel 1) depth self.now.nested.fuel list tokens.old) result tokens.new }
     {
-        for _turn in 0..self.fuel {
+        for _turn in 0..self.nested.fuel {
             if !tokens.eat(Sign::Comma) {
                 return Ok(list);
             }
             if !can_begin(EXPRESSION, tokens.mark()) {
                 return Ok(list);
             }
-            let part = self.again(tokens, EXPRESSION, depth)?;
+            let part = self.nested.again(tokens, EXPRESSION, depth)?;
             list = with_part(list, opened(part))?;
         }
         Err(tokens.refuse())
@@ -138,14 +137,14 @@ impl<
         depth: u32,
         mut list: Found<Items<Link<Expr>>>,
     ) -> Result<Found<Items<Link<Expr>>>, ParseEnd>
-        requires { Nests self.now.fuel (F.pre self.now.again) (F.post self.now.again) }
-        ensures { Reads (spec.run_from (spec.parse self.now.fuel) self.now.fuel Parts.links (spec.link (spec.parse self.now.fuel) self.now.fuel) depth self.now.fuel list tokens.old) result tokens.new }
+        requires { Nests self.now.nested.fuel (F.pre self.now.nested.again) (F.post self.now.nested.again) }
+        ensures { Reads (spec.run_from (spec.parse self.now.nested.fuel) self.now.nested.fuel Parts.links (spec.link (spec.parse self.now.nested.fuel) self.now.nested.fuel) depth self.now.nested.fuel list tokens.old) result tokens.new }
     {
-        for _turn in 0..self.fuel {
+        for _turn in 0..self.nested.fuel {
             if !is_comparison(role_of(tokens.mark())) {
                 return Ok(list);
             }
-            let part = self.link(tokens, depth)?;
+            let part = self.nested.link(tokens, depth)?;
             list = with_part(list, part)?;
         }
         Err(tokens.refuse())
@@ -157,10 +156,10 @@ impl<
         depth: u32,
         mut list: Found<Items<Clause<Expr>>>,
     ) -> Result<Found<Items<Clause<Expr>>>, ParseEnd>
-        requires { Nests self.now.fuel (F.pre self.now.again) (F.post self.now.again) }
-        ensures { Reads (spec.run_from (spec.parse self.now.fuel) self.now.fuel Parts.clauses (spec.clause (spec.parse self.now.fuel) self.now.fuel) depth self.now.fuel list tokens.old) result tokens.new }
+        requires { Nests self.now.nested.fuel (F.pre self.now.nested.again) (F.post self.now.nested.again) }
+        ensures { Reads (spec.run_from (spec.parse self.now.nested.fuel) self.now.nested.fuel Parts.clauses (spec.clause (spec.parse self.now.nested.fuel) self.now.nested.fuel) depth self.now.nested.fuel list tokens.old) result tokens.new }
     {
-        for _turn in 0..self.fuel {
+        for _turn in 0..self.nested.fuel {
             if !begins_clause(tokens.mark()) {
                 return Ok(list);
             }
@@ -180,19 +179,19 @@ impl<
         depth: u32,
         first: Found<Item<Boxed<Expr>>>,
     ) -> Result<Found<Boxed<Expr>>, ParseEnd>
-        requires { Nests self.now.fuel (F.pre self.now.again) (F.post self.now.again) }
-        ensures { Reads (spec.row_behind (spec.parse self.now.fuel) self.now.fuel at row depth first tokens.old) result tokens.new }
+        requires { Nests self.now.nested.fuel (F.pre self.now.nested.again) (F.post self.now.nested.again) }
+        ensures { Reads (spec.row_behind (spec.parse self.now.nested.fuel) self.now.nested.fuel at row depth first tokens.old) result tokens.new }
     {
         if !tokens.sees(Sign::Comma) {
             return Ok(Found {
-                tree: alone(self.alloc, first.tree)?,
+                tree: alone(self.nested.alloc, first.tree)?,
                 height: first.height,
             });
         }
-        let list = only(self.alloc, opened_item(first))?;
+        let list = only(self.nested.alloc, opened_item(first))?;
         let items = self.items_behind(tokens, row, depth.saturating_sub(1), list)?;
         tall(
-            self.alloc,
+            self.nested.alloc,
             tokens,
             at,
             depth,
@@ -210,10 +209,10 @@ impl<
         row: Row,
         depth: u32,
     ) -> Result<Found<Boxed<Expr>>, ParseEnd>
-        requires { Nests self.now.fuel (F.pre self.now.again) (F.post self.now.again) }
-        ensures { Reads (spec.row_of (spec.parse self.now.fuel) self.now.fuel at row depth tokens.old) result tokens.new }
+        requires { Nests self.now.nested.fuel (F.pre self.now.nested.again) (F.post self.now.nested.again) }
+        ensures { Reads (spec.row_of (spec.parse self.now.nested.fuel) self.now.nested.fuel at row depth tokens.old) result tokens.new }
     {
-        let first = self.item(tokens, row, depth)?;
+        let first = self.nested.item(tokens, row, depth)?;
         self.row_behind(tokens, at, row, depth, first)
     }
 
@@ -224,17 +223,17 @@ impl<
         tokens: &mut Cursor<'_>,
         depth: u32,
     ) -> Result<Found<Items<Param<Expr>>>, ParseEnd>
-        requires { Nests self.now.fuel (F.pre self.now.again) (F.post self.now.again) }
-        ensures { Reads (spec.some_params (spec.parse self.now.fuel) self.now.fuel depth tokens.old) result tokens.new }
+        requires { Nests self.now.nested.fuel (F.pre self.now.nested.again) (F.post self.now.nested.again) }
+        ensures { Reads (spec.some_params (spec.parse self.now.nested.fuel) self.now.nested.fuel depth tokens.old) result tokens.new }
     {
         if !begins_param(tokens.mark()) {
             return Ok(Found {
-                tree: Items::new(self.alloc),
+                tree: Items::new(self.nested.alloc),
                 height: 0,
             });
         }
-        let first = self.param(tokens, depth)?;
-        let list = only(self.alloc, first)?;
+        let first = self.nested.param(tokens, depth)?;
+        let list = only(self.nested.alloc, first)?;
         self.params_behind(tokens, depth, list)
     }
 
@@ -245,8 +244,8 @@ impl<
         tokens: &mut Cursor<'_>,
         depth: u32,
     ) -> Result<Found<Items<Param<Expr>>>, ParseEnd>
-        requires { Nests self.now.fuel (F.pre self.now.again) (F.post self.now.again) }
-        ensures { Reads (spec.params (spec.parse self.now.fuel) self.now.fuel depth tokens.old) result tokens.new }
+        requires { Nests self.now.nested.fuel (F.pre self.now.nested.again) (F.post self.now.nested.again) }
+        ensures { Reads (spec.params (spec.parse self.now.nested.fuel) self.now.nested.fuel depth tokens.old) result tokens.new }
     {
         let params = self.some_params(tokens, depth)?;
         if !params_in_order(params.tree.as_slice()) {
@@ -262,14 +261,14 @@ impl<
         tokens: &mut Cursor<'_>,
         depth: u32,
     ) -> Result<Found<Clause<Boxed<Expr>>>, ParseEnd>
-        requires { Nests self.now.fuel (F.pre self.now.again) (F.post self.now.again) }
-        ensures { Reads (spec.loop_clause (spec.parse self.now.fuel) self.now.fuel depth tokens.old) result tokens.new }
+        requires { Nests self.now.nested.fuel (F.pre self.now.nested.again) (F.post self.now.nested.again) }
+        ensures { Reads (spec.loop_clause (spec.parse self.now.nested.fuel) self.now.nested.fuel depth tokens.old) result tokens.new }
     {
         let line = tokens.take();
         let start = tokens.line();
         let target = self.row_of(tokens, start, Row::Targets, depth)?;
         tokens.expect_word(Word::In)?;
-        let iterable = self.again(tokens, DISJUNCTION, depth)?;
+        let iterable = self.nested.again(tokens, DISJUNCTION, depth)?;
         Ok(Found {
             tree: Clause::For(line, target.tree, iterable.tree),
             height: target.height.max(iterable.height),
@@ -283,14 +282,14 @@ impl<
         tokens: &mut Cursor<'_>,
         depth: u32,
     ) -> Result<Found<Clause<Boxed<Expr>>>, ParseEnd>
-        requires { Nests self.now.fuel (F.pre self.now.again) (F.post self.now.again) }
-        ensures { Reads (spec.clause (spec.parse self.now.fuel) self.now.fuel depth tokens.old) result tokens.new }
+        requires { Nests self.now.nested.fuel (F.pre self.now.nested.again) (F.post self.now.nested.again) }
+        ensures { Reads (spec.clause (spec.parse self.now.nested.fuel) self.now.nested.fuel depth tokens.old) result tokens.new }
     {
         match tokens.mark() {
             Mark::Keyword(Word::For) => self.loop_clause(tokens, depth),
             Mark::Keyword(Word::If) => {
                 let line = tokens.take();
-                let x = self.again(tokens, DISJUNCTION, depth)?;
+                let x = self.nested.again(tokens, DISJUNCTION, depth)?;
                 Ok(Found {
                     tree: Clause::If(line, x.tree),
                     height: x.height,
@@ -307,14 +306,14 @@ impl<
         tokens: &mut Cursor<'_>,
         depth: u32,
     ) -> Result<Found<Boxed<Clauses<Expr>>>, ParseEnd>
-        requires { Nests self.now.fuel (F.pre self.now.again) (F.post self.now.again) }
-        ensures { Reads (spec.comprehension (spec.parse self.now.fuel) self.now.fuel depth tokens.old) result tokens.new }
+        requires { Nests self.now.nested.fuel (F.pre self.now.nested.again) (F.post self.now.nested.again) }
+        ensures { Reads (spec.comprehension (spec.parse self.now.nested.fuel) self.now.nested.fuel depth tokens.old) result tokens.new }
     {
         let Found { tree, height } = self.clause(tokens, depth)?;
         match tree {
             Clause::For(_, target, iterable) => {
                 let none = Found {
-                    tree: Items::new(self.alloc),
+                    tree: Items::new(self.nested.alloc),
                     height: 0,
                 };
                 let more = self.clauses(tokens, depth, none)?;
@@ -324,7 +323,7 @@ impl<
                     more: more.tree,
                 };
                 Ok(Found {
-                    tree: Boxed::new(self.alloc, tree)?,
+                    tree: Boxed::new(self.nested.alloc, tree)?,
                     height: height.max(more.height),
                 })
             }

@@ -3,13 +3,13 @@
 ghost use Rattle.std.specs.Prelude.{◌≡◌, ◌≤◌, length};
 ghost use Rattle.py_grammar.specs.Parse as spec;
 ghost use Rattle.py_grammar.specs.Parse.{Reads};
-ghost use Rattle.py_expr.specs.Nests.{Nests};
+ghost use Rattle.py_cursor.specs.Nests.{Nests};
 
 use crate::grammar::Grammar;
-use crate::nodes::{combined, tall};
 use py_ast::{Binary, Expr, Sign, Unary, Word};
 use py_cursor::{
-    Cursor, DISJUNCTION, EXPRESSION, NEGATION, SIGNED, level_of, makes, only, role_of,
+    Cursor, DISJUNCTION, EXPRESSION, NEGATION, SIGNED, combined, level_of, makes, only, role_of,
+    tall,
 };
 use py_grammar::{Bracket, Found, Mark, ParseEnd, Role};
 use sqlite_items::Boxed;
@@ -27,16 +27,20 @@ impl<
         depth: u32,
         left: Found<Boxed<Expr>>,
     ) -> Result<Found<Boxed<Expr>>, ParseEnd>
-        requires { Nests self.now.fuel (F.pre self.now.again) (F.post self.now.again) }
-        ensures { Reads (spec.conditional (spec.parse self.now.fuel) self.now.fuel line depth left tokens.old) result tokens.new }
+        requires { Nests self.now.nested.fuel (F.pre self.now.nested.again) (F.post self.now.nested.again) }
+        ensures { Reads (spec.conditional (spec.parse self.now.nested.fuel) self.now.nested.fuel line depth left tokens.old) result tokens.new }
     {
         tokens.take();
-        let test = self.again(tokens, DISJUNCTION, depth.saturating_sub(1))?;
+        let test = self
+            .nested
+            .again(tokens, DISJUNCTION, depth.saturating_sub(1))?;
         tokens.expect_word(Word::Else)?;
-        let other = self.again(tokens, EXPRESSION, depth.saturating_sub(1))?;
+        let other = self
+            .nested
+            .again(tokens, EXPRESSION, depth.saturating_sub(1))?;
         let height = left.height.max(test.height.max(other.height));
         let tree = Expr::Conditional(line, test.tree, left.tree, other.tree);
-        tall(self.alloc, tokens, line, depth, height, tree)
+        tall(self.nested.alloc, tokens, line, depth, height, tree)
     }
 
     /// A call, behind what is called.
@@ -48,15 +52,15 @@ impl<
         depth: u32,
         left: Found<Boxed<Expr>>,
     ) -> Result<Found<Boxed<Expr>>, ParseEnd>
-        requires { Nests self.now.fuel (F.pre self.now.again) (F.post self.now.again) }
-        ensures { Reads (spec.call (spec.parse self.now.fuel) self.now.fuel line depth left tokens.old) result tokens.new }
+        requires { Nests self.now.nested.fuel (F.pre self.now.nested.again) (F.post self.now.nested.again) }
+        ensures { Reads (spec.call (spec.parse self.now.nested.fuel) self.now.nested.fuel line depth left tokens.old) result tokens.new }
     {
         tokens.take();
         let arguments = self.arguments(tokens, depth.saturating_sub(1))?;
         tokens.expect(Sign::RightParen)?;
         let height = left.height.max(arguments.height);
         let tree = Expr::Call(line, left.tree, arguments.tree);
-        tall(self.alloc, tokens, line, depth, height, tree)
+        tall(self.nested.alloc, tokens, line, depth, height, tree)
     }
 
     /// An index, behind what is indexed.
@@ -68,15 +72,15 @@ impl<
         depth: u32,
         left: Found<Boxed<Expr>>,
     ) -> Result<Found<Boxed<Expr>>, ParseEnd>
-        requires { Nests self.now.fuel (F.pre self.now.again) (F.post self.now.again) }
-        ensures { Reads (spec.index (spec.parse self.now.fuel) self.now.fuel line depth left tokens.old) result tokens.new }
+        requires { Nests self.now.nested.fuel (F.pre self.now.nested.again) (F.post self.now.nested.again) }
+        ensures { Reads (spec.index (spec.parse self.now.nested.fuel) self.now.nested.fuel line depth left tokens.old) result tokens.new }
     {
         tokens.take();
         let inner = self.subscripts(tokens, depth.saturating_sub(1))?;
         tokens.expect(Sign::RightBracket)?;
         let height = left.height.max(inner.height);
         let tree = Expr::Index(line, left.tree, inner.tree);
-        tall(self.alloc, tokens, line, depth, height, tree)
+        tall(self.nested.alloc, tokens, line, depth, height, tree)
     }
 
     /// Comparisons, behind their first operand.
@@ -88,15 +92,15 @@ impl<
         depth: u32,
         left: Found<Boxed<Expr>>,
     ) -> Result<Found<Boxed<Expr>>, ParseEnd>
-        requires { Nests self.now.fuel (F.pre self.now.again) (F.post self.now.again) }
-        ensures { Reads (spec.compare (spec.parse self.now.fuel) self.now.fuel line depth left tokens.old) result tokens.new }
+        requires { Nests self.now.nested.fuel (F.pre self.now.nested.again) (F.post self.now.nested.again) }
+        ensures { Reads (spec.compare (spec.parse self.now.nested.fuel) self.now.nested.fuel line depth left tokens.old) result tokens.new }
     {
-        let first = self.link(tokens, depth.saturating_sub(1))?;
-        let list = only(self.alloc, first)?;
+        let first = self.nested.link(tokens, depth.saturating_sub(1))?;
+        let list = only(self.nested.alloc, first)?;
         let links = self.links(tokens, depth.saturating_sub(1), list)?;
         let height = left.height.max(links.height);
         let tree = Expr::Compare(line, left.tree, links.tree);
-        tall(self.alloc, tokens, line, depth, height, tree)
+        tall(self.nested.alloc, tokens, line, depth, height, tree)
     }
 
     /// What the next token makes of the expression before it, which begins on this line.
@@ -108,23 +112,25 @@ impl<
         depth: u32,
         left: Found<Boxed<Expr>>,
     ) -> Result<Found<Boxed<Expr>>, ParseEnd>
-        requires { Nests self.now.fuel (F.pre self.now.again) (F.post self.now.again) }
-        ensures { Reads (spec.operation (spec.parse self.now.fuel) self.now.fuel line depth left tokens.old) result tokens.new }
+        requires { Nests self.now.nested.fuel (F.pre self.now.nested.again) (F.post self.now.nested.again) }
+        ensures { Reads (spec.operation (spec.parse self.now.nested.fuel) self.now.nested.fuel line depth left tokens.old) result tokens.new }
     {
         match role_of(tokens.mark()) {
             Role::Infix(chain, op) => {
                 tokens.take();
-                let right = self.again(tokens, level_of(chain) + 1, depth.saturating_sub(1))?;
+                let right = self
+                    .nested
+                    .again(tokens, level_of(chain) + 1, depth.saturating_sub(1))?;
                 let height = left.height.max(right.height);
                 let tree = combined(line, op, left.tree, right.tree);
-                tall(self.alloc, tokens, line, depth, height, tree)
+                tall(self.nested.alloc, tokens, line, depth, height, tree)
             }
             Role::Power => {
                 tokens.take();
-                let right = self.again(tokens, SIGNED, depth.saturating_sub(1))?;
+                let right = self.nested.again(tokens, SIGNED, depth.saturating_sub(1))?;
                 let height = left.height.max(right.height);
                 let tree = Expr::Binary(line, Binary::Power, left.tree, right.tree);
-                tall(self.alloc, tokens, line, depth, height, tree)
+                tall(self.nested.alloc, tokens, line, depth, height, tree)
             }
             Role::Compares => self.compare(tokens, line, depth, left),
             Role::Condition => self.conditional(tokens, line, depth, left),
@@ -134,7 +140,7 @@ impl<
                 tokens.take();
                 let name = tokens.name()?;
                 let tree = Expr::Attribute(line, left.tree, name);
-                tall(self.alloc, tokens, line, depth, left.height, tree)
+                tall(self.nested.alloc, tokens, line, depth, left.height, tree)
             }
             Role::Ends | Role::Literal => Err(tokens.refuse()),
         }
@@ -147,16 +153,18 @@ impl<
         tokens: &mut Cursor<'_>,
         depth: u32,
     ) -> Result<Found<Boxed<Expr>>, ParseEnd>
-        requires { Nests self.now.fuel (F.pre self.now.again) (F.post self.now.again) }
-        ensures { Reads (spec.lambda (spec.parse self.now.fuel) self.now.fuel depth tokens.old) result tokens.new }
+        requires { Nests self.now.nested.fuel (F.pre self.now.nested.again) (F.post self.now.nested.again) }
+        ensures { Reads (spec.lambda (spec.parse self.now.nested.fuel) self.now.nested.fuel depth tokens.old) result tokens.new }
     {
         let line = tokens.take();
         let params = self.params(tokens, depth.saturating_sub(1))?;
         tokens.expect(Sign::Colon)?;
-        let x = self.again(tokens, EXPRESSION, depth.saturating_sub(1))?;
+        let x = self
+            .nested
+            .again(tokens, EXPRESSION, depth.saturating_sub(1))?;
         let height = params.height.max(x.height);
         let tree = Expr::Lambda(line, params.tree, x.tree);
-        tall(self.alloc, tokens, line, depth, height, tree)
+        tall(self.nested.alloc, tokens, line, depth, height, tree)
     }
 
     /// `not` and its operand.
@@ -166,13 +174,15 @@ impl<
         tokens: &mut Cursor<'_>,
         depth: u32,
     ) -> Result<Found<Boxed<Expr>>, ParseEnd>
-        requires { Nests self.now.fuel (F.pre self.now.again) (F.post self.now.again) }
-        ensures { Reads (spec.negated (spec.parse self.now.fuel) self.now.fuel depth tokens.old) result tokens.new }
+        requires { Nests self.now.nested.fuel (F.pre self.now.nested.again) (F.post self.now.nested.again) }
+        ensures { Reads (spec.negated (spec.parse self.now.nested.fuel) self.now.nested.fuel depth tokens.old) result tokens.new }
     {
         let line = tokens.take();
-        let x = self.again(tokens, NEGATION, depth.saturating_sub(1))?;
+        let x = self
+            .nested
+            .again(tokens, NEGATION, depth.saturating_sub(1))?;
         let tree = Expr::Not(line, x.tree);
-        tall(self.alloc, tokens, line, depth, x.height, tree)
+        tall(self.nested.alloc, tokens, line, depth, x.height, tree)
     }
 
     /// A sign and its operand.
@@ -184,16 +194,16 @@ impl<
         least: u32,
         depth: u32,
     ) -> Result<Found<Boxed<Expr>>, ParseEnd>
-        requires { Nests self.now.fuel (F.pre self.now.again) (F.post self.now.again) }
-        ensures { Reads (spec.under (spec.parse self.now.fuel) self.now.fuel op least depth tokens.old) result tokens.new }
+        requires { Nests self.now.nested.fuel (F.pre self.now.nested.again) (F.post self.now.nested.again) }
+        ensures { Reads (spec.under (spec.parse self.now.nested.fuel) self.now.nested.fuel op least depth tokens.old) result tokens.new }
     {
         if least > SIGNED {
             return Err(tokens.refuse());
         }
         let line = tokens.take();
-        let x = self.again(tokens, SIGNED, depth.saturating_sub(1))?;
+        let x = self.nested.again(tokens, SIGNED, depth.saturating_sub(1))?;
         let tree = Expr::Unary(line, op, x.tree);
-        tall(self.alloc, tokens, line, depth, x.height, tree)
+        tall(self.nested.alloc, tokens, line, depth, x.height, tree)
     }
 
     /// An expression before any operation: an atom, or a word or sign with its operand.
@@ -204,20 +214,27 @@ impl<
         least: u32,
         depth: u32,
     ) -> Result<Found<Boxed<Expr>>, ParseEnd>
-        requires { Nests self.now.fuel (F.pre self.now.again) (F.post self.now.again) }
-        ensures { Reads (spec.prefix (spec.parse self.now.fuel) self.now.fuel least depth tokens.old) result tokens.new }
+        requires { Nests self.now.nested.fuel (F.pre self.now.nested.again) (F.post self.now.nested.again) }
+        ensures { Reads (spec.prefix (spec.parse self.now.nested.fuel) self.now.nested.fuel least depth tokens.old) result tokens.new }
     {
         match tokens.mark() {
             Mark::Name => {
                 let line = tokens.line();
                 let name = tokens.name()?;
-                tall(self.alloc, tokens, line, depth, 0, Expr::Name(line, name))
+                tall(
+                    self.nested.alloc,
+                    tokens,
+                    line,
+                    depth,
+                    0,
+                    Expr::Name(line, name),
+                )
             }
             Mark::Number => {
                 let line = tokens.line();
                 let number = tokens.number()?;
                 tall(
-                    self.alloc,
+                    self.nested.alloc,
                     tokens,
                     line,
                     depth,
@@ -227,20 +244,27 @@ impl<
             }
             Mark::Text => {
                 let line = tokens.line();
-                let text = tokens.texts(self.alloc)?;
-                tall(self.alloc, tokens, line, depth, 0, Expr::Text(line, text))
+                let text = tokens.texts(self.nested.alloc)?;
+                tall(
+                    self.nested.alloc,
+                    tokens,
+                    line,
+                    depth,
+                    0,
+                    Expr::Text(line, text),
+                )
             }
             Mark::Keyword(Word::None) => {
                 let line = tokens.take();
-                tall(self.alloc, tokens, line, depth, 0, Expr::None(line))
+                tall(self.nested.alloc, tokens, line, depth, 0, Expr::None(line))
             }
             Mark::Keyword(Word::True) => {
                 let line = tokens.take();
-                tall(self.alloc, tokens, line, depth, 0, Expr::True(line))
+                tall(self.nested.alloc, tokens, line, depth, 0, Expr::True(line))
             }
             Mark::Keyword(Word::False) => {
                 let line = tokens.take();
-                tall(self.alloc, tokens, line, depth, 0, Expr::False(line))
+                tall(self.nested.alloc, tokens, line, depth, 0, Expr::False(line))
             }
             Mark::Keyword(Word::Lambda) => {
                 if least > EXPRESSION {
@@ -273,8 +297,8 @@ impl<
         line: u32,
         mut left: Found<Boxed<Expr>>,
     ) -> Result<Found<Boxed<Expr>>, ParseEnd>
-        requires { Nests self.now.fuel (F.pre self.now.again) (F.post self.now.again) }
-        ensures { Reads (spec.climb (spec.parse self.now.fuel) self.now.fuel least depth depth line left tokens.old) result tokens.new }
+        requires { Nests self.now.nested.fuel (F.pre self.now.nested.again) (F.post self.now.nested.again) }
+        ensures { Reads (spec.climb (spec.parse self.now.nested.fuel) self.now.nested.fuel least depth depth line left tokens.old) result tokens.new }
     {
         for _turn in 0..depth {
             if makes(role_of(tokens.mark())) < least {
@@ -296,8 +320,8 @@ impl<
         least: u32,
         depth: u32,
     ) -> Result<Found<Boxed<Expr>>, ParseEnd>
-        requires { Nests self.now.fuel (F.pre self.now.again) (F.post self.now.again) }
-        ensures { Reads (spec.level (spec.parse self.now.fuel) self.now.fuel least depth tokens.old) result tokens.new }
+        requires { Nests self.now.nested.fuel (F.pre self.now.nested.again) (F.post self.now.nested.again) }
+        ensures { Reads (spec.level (spec.parse self.now.nested.fuel) self.now.nested.fuel least depth tokens.old) result tokens.new }
     {
         let line = tokens.line();
         let first = self.prefix(tokens, least, depth)?;

@@ -7,11 +7,10 @@ ghost use Rattle.py_grammar.specs.Parse as spec;
 ghost use Rattle.py_grammar.specs.Parse.{Reads};
 
 use crate::grammar::{Grammar, parse};
-use crate::nodes::alone;
 use py_ast::{Expr, Item, Params, Sign, Target, Token, Word};
 use py_cursor::{
-    Cursor, EXPRESSION, MAX_DEPTH, follows_expression, follows_exprs, follows_params,
-    follows_target, follows_targets,
+    Cursor, EXPRESSION, MAX_DEPTH, Nested, alone, follows_expression, follows_exprs,
+    follows_params, follows_target, follows_targets,
 };
 use py_grammar::{Found, ParseEnd, Row};
 use sqlite_items::Boxed;
@@ -42,9 +41,11 @@ pub fn exprs_to(
     let fuel = tokens.rest().len() + 1;
     let line = tokens.line();
     Grammar {
-        alloc,
-        fuel,
-        again: parse,
+        nested: Nested {
+            alloc,
+            fuel,
+            again: parse,
+        },
     }
     .row_of(tokens, line, Row::Expressions, depth)
 }
@@ -62,11 +63,13 @@ pub fn row_to(
     let fuel = tokens.rest().len() + 1;
     let line = tokens.line();
     let grammar = Grammar {
-        alloc,
-        fuel,
-        again: parse,
+        nested: Nested {
+            alloc,
+            fuel,
+            again: parse,
+        },
     };
-    let first = grammar.item(tokens, Row::Expressions, depth)?;
+    let first = grammar.nested.item(tokens, Row::Expressions, depth)?;
     let is_alone = match first.tree {
         Item::One(_) => !tokens.sees(Sign::Comma),
         Item::Star(_, _) => false,
@@ -87,9 +90,11 @@ pub fn targets_to(
     let fuel = tokens.rest().len() + 1;
     let line = tokens.line();
     Grammar {
-        alloc,
-        fuel,
-        again: parse,
+        nested: Nested {
+            alloc,
+            fuel,
+            again: parse,
+        },
     }
     .row_of(tokens, line, Row::Targets, depth)
 }
@@ -104,7 +109,7 @@ pub fn target_to(
     ensures { Reads (spec.read_target depth tokens.old) result tokens.new }
 {
     let fuel = tokens.rest().len() + 1;
-    let item = Grammar {
+    let item = Nested {
         alloc,
         fuel,
         again: parse,
@@ -130,9 +135,11 @@ pub fn yield_to(
     }
     let fuel = tokens.rest().len() + 1;
     Grammar {
-        alloc,
-        fuel,
-        again: parse,
+        nested: Nested {
+            alloc,
+            fuel,
+            again: parse,
+        },
     }
     .yields(tokens, depth)
 }
@@ -148,9 +155,11 @@ pub fn params_to(
 {
     let fuel = tokens.rest().len() + 1;
     Grammar {
-        alloc,
-        fuel,
-        again: parse,
+        nested: Nested {
+            alloc,
+            fuel,
+            again: parse,
+        },
     }
     .params(tokens, depth)
 }

@@ -8,29 +8,29 @@ use Rattle.py_expr.proofs.grammar.Grammar.clauses.Goals as goal
 pub returns-then-not-begins_clause : goal.returns-then-not-begins_clause
 unfolding run_from
 returns-then-not-begins_clause g c =
-    let e = one_more (λ n. run_from (parse c.args.self.now.fuel) c.args.self.now.fuel Parts.clauses (clause (parse c.args.self.now.fuel) c.args.self.now.fuel) c.args.depth n c.loop-turn.list c.loop-turn.tokens) _ c.loop-turn._turn c.loop-turn-test.true c.loop-turn.invariant in
+    let e = one_more (λ n. run_from (parse c.args.self.now.nested.fuel) c.args.self.now.nested.fuel Parts.clauses (clause (parse c.args.self.now.nested.fuel) c.args.self.now.nested.fuel) c.args.depth n c.loop-turn.list c.loop-turn.tokens) _ c.loop-turn._turn c.loop-turn-test.true c.loop-turn.invariant in
     first_of (search rules, grind (arith, common_steps))
 
 pub returns-in_err-part : goal.returns-in_err-part
 unfolding run_from
 returns-in_err-part g c =
-    let e = one_more (λ n. run_from (parse c.args.self.now.fuel) c.args.self.now.fuel Parts.clauses (clause (parse c.args.self.now.fuel) c.args.self.now.fuel) c.args.depth n c.loop-turn.list c.loop-turn.tokens) _ c.loop-turn._turn c.loop-turn-test.true c.loop-turn.invariant in
+    let e = one_more (λ n. run_from (parse c.args.self.now.nested.fuel) c.args.self.now.nested.fuel Parts.clauses (clause (parse c.args.self.now.nested.fuel) c.args.self.now.nested.fuel) c.args.depth n c.loop-turn.list c.loop-turn.tokens) _ c.loop-turn._turn c.loop-turn-test.true c.loop-turn.invariant in
     first_of (search rules, grind (arith, common_steps))
 
 pub returns-in_err-list : goal.returns-in_err-list
 unfolding run_from
 returns-in_err-list g c =
-    let e = one_more (λ n. run_from (parse c.args.self.now.fuel) c.args.self.now.fuel Parts.clauses (clause (parse c.args.self.now.fuel) c.args.self.now.fuel) c.args.depth n c.loop-turn.list c.loop-turn.tokens) _ c.loop-turn._turn c.loop-turn-test.true c.loop-turn.invariant in
+    let e = one_more (λ n. run_from (parse c.args.self.now.nested.fuel) c.args.self.now.nested.fuel Parts.clauses (clause (parse c.args.self.now.nested.fuel) c.args.self.now.nested.fuel) c.args.depth n c.loop-turn.list c.loop-turn.tokens) _ c.loop-turn._turn c.loop-turn-test.true c.loop-turn.invariant in
     first_of (search rules, grind (arith, common_steps))
 
 pub loop-turn-preserved : goal.loop-turn-preserved
 unfolding run_from
 loop-turn-preserved g c =
-    let e = one_more (λ n. run_from (parse c.args.self.now.fuel) c.args.self.now.fuel Parts.clauses (clause (parse c.args.self.now.fuel) c.args.self.now.fuel) c.args.depth n c.loop-turn.list c.loop-turn.tokens) _ c.loop-turn._turn c.loop-turn-test.true c.loop-turn.invariant in
+    let e = one_more (λ n. run_from (parse c.args.self.now.nested.fuel) c.args.self.now.nested.fuel Parts.clauses (clause (parse c.args.self.now.nested.fuel) c.args.self.now.nested.fuel) c.args.depth n c.loop-turn.list c.loop-turn.tokens) _ c.loop-turn._turn c.loop-turn-test.true c.loop-turn.invariant in
     first_of (search rules, grind (arith, common_steps))
 
 pub returns : goal.returns
 unfolding run_from
 returns g c =
-    let e = no_more (λ n. run_from (parse c.args.self.now.fuel) c.args.self.now.fuel Parts.clauses (clause (parse c.args.self.now.fuel) c.args.self.now.fuel) c.args.depth n c.loop-turn.list c.loop-turn.tokens) _ c.loop-turn._turn c.loop-turn-test.false c.loop-turn.invariant in
+    let e = no_more (λ n. run_from (parse c.args.self.now.nested.fuel) c.args.self.now.nested.fuel Parts.clauses (clause (parse c.args.self.now.nested.fuel) c.args.self.now.nested.fuel) c.args.depth n c.loop-turn.list c.loop-turn.tokens) _ c.loop-turn._turn c.loop-turn-test.false c.loop-turn.invariant in
     first_of (search rules, grind (arith, common_steps))

@@ -4,4 +4,4 @@ use Rattle.py_grammar.specs.Parse.{tail_from, parse, entry}
 use Rattle.py_expr.proofs.grammar.Grammar.entries_behind.Given as goal
 
 abbrev pub invariant-loop-turn : goal.invariant-loop-turn
-invariant-loop-turn g l = tail_from (parse l.self.fuel) l.self.fuel Parts.entries (entry (parse l.self.fuel) l.self.fuel) l.depth l.self.fuel l.fn.list l.fn.tokens ≡ tail_from (parse l.self.fuel) l.self.fuel Parts.entries (entry (parse l.self.fuel) l.self.fuel) l.depth (l._turn-end - l._turn) l.list l.tokens
+invariant-loop-turn g l = tail_from (parse l.self.nested.fuel) l.self.nested.fuel Parts.entries (entry (parse l.self.nested.fuel) l.self.nested.fuel) l.depth l.self.nested.fuel l.fn.list l.fn.tokens ≡ tail_from (parse l.self.nested.fuel) l.self.nested.fuel Parts.entries (entry (parse l.self.nested.fuel) l.self.nested.fuel) l.depth (l._turn-end - l._turn) l.list l.tokens

@@ -4,4 +4,4 @@ use Rattle.py_grammar.specs.Parse.{tail_from, parse}
 use Rattle.py_expr.proofs.grammar.Grammar.indices_behind.Given as goal
 
 abbrev pub invariant-loop-turn : goal.invariant-loop-turn
-invariant-loop-turn g l = tail_from (parse l.self.fuel) l.self.fuel Parts.indices (parse l.self.fuel 1) l.depth l.self.fuel l.fn.list l.fn.tokens ≡ tail_from (parse l.self.fuel) l.self.fuel Parts.indices (parse l.self.fuel 1) l.depth (l._turn-end - l._turn) l.list l.tokens
+invariant-loop-turn g l = tail_from (parse l.self.nested.fuel) l.self.nested.fuel Parts.indices (parse l.self.nested.fuel 1) l.depth l.self.nested.fuel l.fn.list l.fn.tokens ≡ tail_from (parse l.self.nested.fuel) l.self.nested.fuel Parts.indices (parse l.self.nested.fuel 1) l.depth (l._turn-end - l._turn) l.list l.tokens

@@ -8,35 +8,35 @@ use Rattle.py_expr.proofs.grammar.Grammar.items_behind.Goals as goal
 pub returns-then-not-eat : goal.returns-then-not-eat
 unfolding tail_from
 returns-then-not-eat g c =
-    let e = one_more (λ n. tail_from (parse c.args.self.now.fuel) c.args.self.now.fuel (Parts.items c.args.row) (item (parse c.args.self.now.fuel) c.args.self.now.fuel c.args.row) c.args.depth n c.loop-turn.list c.loop-turn.tokens) _ c.loop-turn._turn c.loop-turn-test.true c.loop-turn.invariant in
+    let e = one_more (λ n. tail_from (parse c.args.self.now.nested.fuel) c.args.self.now.nested.fuel (Parts.items c.args.row) (item (parse c.args.self.now.nested.fuel) c.args.self.now.nested.fuel c.args.row) c.args.depth n c.loop-turn.list c.loop-turn.tokens) _ c.loop-turn._turn c.loop-turn-test.true c.loop-turn.invariant in
     first_of (search rules, grind (arith, common_steps))
 
 pub returns-then-not-begins_item : goal.returns-then-not-begins_item
 unfolding tail_from
 returns-then-not-begins_item g c =
-    let e = one_more (λ n. tail_from (parse c.args.self.now.fuel) c.args.self.now.fuel (Parts.items c.args.row) (item (parse c.args.self.now.fuel) c.args.self.now.fuel c.args.row) c.args.depth n c.loop-turn.list c.loop-turn.tokens) _ c.loop-turn._turn c.loop-turn-test.true c.loop-turn.invariant in
+    let e = one_more (λ n. tail_from (parse c.args.self.now.nested.fuel) c.args.self.now.nested.fuel (Parts.items c.args.row) (item (parse c.args.self.now.nested.fuel) c.args.self.now.nested.fuel c.args.row) c.args.depth n c.loop-turn.list c.loop-turn.tokens) _ c.loop-turn._turn c.loop-turn-test.true c.loop-turn.invariant in
     first_of (search rules, grind (arith, common_steps))
 
 pub returns-in_err-part : goal.returns-in_err-part
 unfolding tail_from
 returns-in_err-part g c =
-    let e = one_more (λ n. tail_from (parse c.args.self.now.fuel) c.args.self.now.fuel (Parts.items c.args.row) (item (parse c.args.self.now.fuel) c.args.self.now.fuel c.args.row) c.args.depth n c.loop-turn.list c.loop-turn.tokens) _ c.loop-turn._turn c.loop-turn-test.true c.loop-turn.invariant in
+    let e = one_more (λ n. tail_from (parse c.args.self.now.nested.fuel) c.args.self.now.nested.fuel (Parts.items c.args.row) (item (parse c.args.self.now.nested.fuel) c.args.self.now.nested.fuel c.args.row) c.args.depth n c.loop-turn.list c.loop-turn.tokens) _ c.loop-turn._turn c.loop-turn-test.true c.loop-turn.invariant in
     first_of (search rules, grind (arith, common_steps))
 
 pub returns-in_err-list : goal.returns-in_err-list
 unfolding tail_from
 returns-in_err-list g c =
-    let e = one_more (λ n. tail_from (parse c.args.self.now.fuel) c.args.self.now.fuel (Parts.items c.args.row) (item (parse c.args.self.now.fuel) c.args.self.now.fuel c.args.row) c.args.depth n c.loop-turn.list c.loop-turn.tokens) _ c.loop-turn._turn c.loop-turn-test.true c.loop-turn.invariant in
+    let e = one_more (λ n. tail_from (parse c.args.self.now.nested.fuel) c.args.self.now.nested.fuel (Parts.items c.args.row) (item (parse c.args.self.now.nested.fuel) c.args.self.now.nested.fuel c.args.row) c.args.depth n c.loop-turn.list c.loop-turn.tokens) _ c.loop-turn._turn c.loop-turn-test.true c.loop-turn.invariant in
     first_of (search rules, grind (arith, common_steps))
 
 pub loop-turn-preserved : goal.loop-turn-preserved
 unfolding tail_from
 loop-turn-preserved g c =
-    let e = one_more (λ n. tail_from (parse c.args.self.now.fuel) c.args.self.now.fuel (Parts.items c.args.row) (item (parse c.args.self.now.fuel) c.args.self.now.fuel c.args.row) c.args.depth n c.loop-turn.list c.loop-turn.tokens) _ c.loop-turn._turn c.loop-turn-test.true c.loop-turn.invariant in
+    let e = one_more (λ n. tail_from (parse c.args.self.now.nested.fuel) c.args.self.now.nested.fuel (Parts.items c.args.row) (item (parse c.args.self.now.nested.fuel) c.args.self.now.nested.fuel c.args.row) c.args.depth n c.loop-turn.list c.loop-turn.tokens) _ c.loop-turn._turn c.loop-turn-test.true c.loop-turn.invariant in
     first_of (search rules, grind (arith, common_steps))
 
 pub returns : goal.returns
 unfolding tail_from
 returns g c =
-    let e = no_more (λ n. tail_from (parse c.args.self.now.fuel) c.args.self.now.fuel (Parts.items c.args.row) (item (parse c.args.self.now.fuel) c.args.self.now.fuel c.args.row) c.args.depth n c.loop-turn.list c.loop-turn.tokens) _ c.loop-turn._turn c.loop-turn-test.false c.loop-turn.invariant in
+    let e = no_more (λ n. tail_from (parse c.args.self.now.nested.fuel) c.args.self.now.nested.fuel (Parts.items c.args.row) (item (parse c.args.self.now.nested.fuel) c.args.self.now.nested.fuel c.args.row) c.args.depth n c.loop-turn.list c.loop-turn.tokens) _ c.loop-turn._turn c.loop-turn-test.false c.loop-turn.invariant in
     first_of (search rules, grind (arith, common_steps))

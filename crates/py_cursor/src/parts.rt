@@ -3,18 +3,20 @@
 ghost use Rattle.std.specs.Prelude.{◌≡◌, ◌≤◌, length};
 ghost use Rattle.py_grammar.specs.Parse as spec;
 ghost use Rattle.py_grammar.specs.Parse.{Reads};
-ghost use Rattle.py_expr.specs.Nests.{Nests};
+ghost use Rattle.py_cursor.specs.Nests.{Nests};
 
-use crate::grammar::Grammar;
+use crate::comparison::comparator;
+use crate::cursor::Cursor;
+use crate::nested::Nested;
+use crate::role::{BITOR, EXPRESSION, plain_level, star_level};
 use py_ast::{Argument, Entry, Expr, Item, Link, Param, Sign};
-use py_cursor::{BITOR, Cursor, EXPRESSION, comparator, plain_level, star_level};
 use py_grammar::{Found, Mark, ParseEnd, Row};
 use sqlite_items::Boxed;
 use std::alloc::Global;
 
 impl<
     F: Fn(Global, &mut Cursor<'_>, usize, u32, u32) -> Result<Found<Boxed<Expr>>, ParseEnd>,
-> Grammar<F> {
+> Nested<F> {
     /// An item of a list of expressions or targets.
     #[tactic(auto, unfolding(py_grammar::specs::Parse::item))]
     pub fn item(
