@@ -229,6 +229,8 @@ fn the_built_in_text_keeps_its_rules(rt: HostRuntime) -> Result<(), Fail> {
     let alloc = rt.alloc();
     let script = parse(alloc, &lex(alloc, TEXT.as_bytes())?)?;
     let scoped = resolve_built_in(alloc, script)?;
-    assert_eq!(rt; scoped.scopes.len(), 48);
+    let scopes = scoped.scopes.len();
+    scoped.let_go();
+    assert_eq!(rt; scopes, 48);
     Ok(())
 }
