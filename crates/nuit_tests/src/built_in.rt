@@ -4,6 +4,7 @@
 use py_lexer::lex;
 use py_parser::parse;
 use py_scopes::resolve_built_in;
+use std::alloc::Global;
 use std::test::Fail;
 
 const TEXT: &str = r#"_nu_seen = []
@@ -223,14 +224,21 @@ def _nu_reversed(x, n):
     yield x[n]
 "#;
 
+// How many scopes a text has that keeps the rules of the built-in one; 0 for a text that is too long.
+fn scopes_of(alloc: Global, text: &[u8]) -> Result<usize, Fail> {
+    if text.len() > 262_144 {
+        return Ok(0);
+    }
+    let script = parse(alloc, &lex(alloc, text)?)?;
+    let scoped = resolve_built_in(alloc, script)?;
+    let count = scoped.scopes.len();
+    scoped.let_go();
+    Ok(count)
+}
+
 // One scope for the module, and one for each function and comprehension.
 #[test]
 fn the_built_in_text_keeps_its_rules(rt: HostRuntime) -> Result<(), Fail> {
-    let alloc = rt.alloc();
-    let script = parse(alloc, &lex(alloc, TEXT.as_bytes())?)?;
-    let scoped = resolve_built_in(alloc, script)?;
-    let scopes = scoped.scopes.len();
-    scoped.let_go();
-    assert_eq!(rt; scopes, 48);
+    assert_eq!(rt; scopes_of(rt.alloc(), TEXT.as_bytes())?, 48);
     Ok(())
 }
