@@ -3,6 +3,12 @@ mod Division
 mod Powers
 pub mod Usual
 pub mod Plain
+pub mod Asking
+pub mod Access
+pub mod Sequences
+pub mod Dicts
+pub mod TextCalls
+pub mod Classes
 pub mod Rows
 pub mod Keeping
 mod Start

@@ -25,8 +25,12 @@ use Rattle.op_rules.specs.declared.family.Family.TheVariants as family
 use Rattle.op_rules.specs.Binding.{bound_end}
 use Rattle.op_rules.specs.Comparisons.{give_bool}
 use Rattle.op_rules.specs.Finish.{is_none, made_after, tuple_after, finishing}
-use Rattle.op_rules.specs.NameRows.{no_local, no_free, value_or, global_row, forgotten, set_or, local_row, held, held_by, cellset_row, emptied, names}
-use Rattle.op_rules.specs.Table.{family_row, family_of, Group, Names, Operators, Comparing, Calling, Others, row_of}
+use Rattle.op_rules.specs.NameRows.{no_local, no_free, value_or, global_row, without_at, set_or, local_row, held, held_by, cellset_row, emptied, spaceget_row, spaceset_row, spacedel_row, native_row, names}
+use Rattle.op_rules.specs.Table.{family_row, family_of, family_at_first, family_at_second, truth_of, calling, Group, Names, Making, Mapping, Classing, Operators, Comparing, Testing, Accessing, Containing, Calling, row_of}
+use Rattle.op_rules.proofs.Access.{other_right}
+use Rattle.op_rules.proofs.Classes.{class_right}
+use Rattle.op_rules.proofs.Dicts.{dict_right}
+use Rattle.op_rules.proofs.Sequences.{sequence_right}
 use Rattle.op_rules.proofs.Plain.{plain_right, int_plain, text_plain, call_plain, truth_after_plain, length_after_plain}
 use Rattle.op_rules.proofs.Usual.{ended, fails, failed, idle, given_right, change_right, made_right, if_end}
 
@@ -49,14 +53,16 @@ module _ (c : Claim) (w : World) (k : Closed c w) where
   looked_up : (n : ℕ) (name : List ℕ) → ValueOf c.of (value_at (names_of (slice_get w.heap n)) name)
   looked_up n name = value_of c.of (names_of (slice_get w.heap n)) name (names_at n (slice_get w.heap n) (k.objects n))
 
-  global_right : (name : List ℕ) → Right c w (ends (global_row w name))
-  global_right name =
-      ended c w k (global_row w name)
-      (value_right _ _ (looked_up w.«module» name) (value_right _ _ (looked_up w.builtins name) (fails c w k 30 _ (lit< tt))))
+  global_end : (name : List ℕ) → EndOf c w (global_row w name)
+  global_end name =
+      value_right _ _ (looked_up w.«module» name) (value_right _ _ (looked_up w.builtins name) (fails c w k 30 _ (lit< tt)))
 
-  forgotten_right : (name : List ℕ) (v : Option Value) → Right c w (forgotten w name v)
-  forgotten_right name None = failed c w k 30 _ (lit< tt)
-  forgotten_right name (Some v) = change_right c w k w.«module» (Unbind name) (tt, inr tt)
+  global_right : (name : List ℕ) → Right c w (ends (global_row w name))
+  global_right name = ended c w k (global_row w name) (global_end name)
+
+  without_right : (n : ℕ) (name : List ℕ) (v : Option Value) → Right c w (without_at n name v)
+  without_right n name None = failed c w k 30 _ (lit< tt)
+  without_right n name (Some v) = change_right c w k n (Unbind name) (tt, inr tt)
 
   set_right : (other : OpEnd) (v : Value) → OrUnset c.of v → EndOf c w other → EndOf c w (set_or other v)
   set_right other value.Unset p q = q
@@ -84,6 +90,22 @@ module _ (c : Claim) (w : World) (k : Closed c w) where
   emptied_right cell other value.Unset q = ended c w k other q
   emptied_right cell other v q = cellset_right cell value.Unset tt
 
+  space_right : (space : Value) (name : List ℕ) → ValueOf c.of (value_at (names_of (object_of w.heap space)) name)
+  space_right (value.Obj n) name = looked_up n name
+  space_right value.Unset name = tt
+  space_right value.None name = tt
+  space_right (value.Bool b) name = tt
+  space_right (value.Int z) name = tt
+  space_right (value.Str text) name = tt
+
+  spaceset_right : (space : Value) (name : List ℕ) (v : Value) → c.of v → Right c w (spaceset_row space name v)
+  spaceset_right (value.Obj n) name v p = change_right c w k n (Bind name v) (p, inr tt)
+  spaceset_right space name v p = idle c w k
+
+  spacedel_right : (space : Value) (name : List ℕ) → Right c w (spacedel_row w.heap space name)
+  spacedel_right (value.Obj n) name = without_right n name (value_at (names_of (slice_get w.heap n)) name)
+  spacedel_right space name = idle c w k
+
   set_of : (v : Value) → c.of v → OrUnset c.of v
   set_of value.Unset p = tt
   set_of v p = p
@@ -91,7 +113,7 @@ module _ (c : Claim) (w : World) (k : Closed c w) where
   names_right : (o : Op) (args : List Value) → Given c o args → Right c w (names o w args)
   names_right op.Global (value.Str name ∷ []) q = global_right name
   names_right op.SetGlobal (value.Str name ∷ v ∷ []) q = change_right c w k w.«module» (Bind name v) (q.1.0, inr tt)
-  names_right op.DelGlobal (value.Str name ∷ []) q = forgotten_right name (value_at (names_of (slice_get w.heap w.«module»)) name)
+  names_right op.DelGlobal (value.Str name ∷ []) q = without_right w.«module» name (value_at (names_of (slice_get w.heap w.«module»)) name)
   names_right op.Local (v ∷ value.Str name ∷ []) q = local_right v name q.0
   names_right op.Cell [] q = made_right c w k (object.Cell value.Unset) (tt, tt, tt)
   names_right op.CellSet (cell ∷ v ∷ []) q = cellset_right cell v (set_of v q.1.0)
@@ -99,23 +121,43 @@ module _ (c : Claim) (w : World) (k : Closed c w) where
   names_right op.CellDel (cell ∷ value.Str name ∷ []) q = emptied_right cell (no_local name) (held_by w.heap cell) (fails c w k 31 _ (lit< tt))
   names_right op.FreeGet (cell ∷ value.Str name ∷ []) q = get_right (no_free name) cell (fails c w k 30 _ (lit< tt))
   names_right op.FreeDel (cell ∷ value.Str name ∷ []) q = emptied_right cell (no_free name) (held_by w.heap cell) (fails c w k 30 _ (lit< tt))
+  names_right op.Space [] q = made_right c w k (object.Space []) (tt, tt, tt)
+  names_right op.SpaceGet (space ∷ value.Str name ∷ []) q = ended c w k (spaceget_row w space name) (value_right _ _ (space_right space name) (global_end name))
+  names_right op.SpaceSet (space ∷ value.Str name ∷ v ∷ []) q = spaceset_right space name v q.1.1.0
+  names_right op.SpaceDel (space ∷ value.Str name ∷ []) q = spacedel_right space name
+  names_right op.Native (value.Str name ∷ []) q = ended c w k (native_row w name) (value_right _ _ (looked_up w.builtins name) tt)
   names_right o args q = idle c w k
 
-  -- ---- operators
+  -- ---- families
 
-  family_right : (f : Family) (o : Op) (args : List Value) → Right c w (family_row f o w.heap args)
-  family_right family.Integers o args = plain_right c w k _ (int_plain o w.heap args)
-  family_right family.Texts o args = plain_right c w k _ (text_plain o w.heap args)
-  family_right f o args = idle c w k
+  family_right : (f : Family) (o : Op) (args : List Value) → Given c o args → Right c w (family_row f o w.heap args)
+  family_right family.Classes o args q = class_right c w k o args q
+  family_right family.Dicts o args q = dict_right c w k o args q
+  family_right family.Sequences o args q = sequence_right c w k o args q
+  family_right family.Texts o args q = plain_right c w k _ (text_plain o w.heap args)
+  family_right family.Integers o args q = other_right c w k o args q
+
+  truth_right : (f : Family) (o : Op) (args : List Value) → Given c o args → Right c w (truth_of f o w.heap args)
+  truth_right family.Classes o args q = class_right c w k o args q
+  truth_right f o args q = plain_right c w k _ (int_plain o w.heap args)
+
+  calling_right : (o : Op) (args : List Value) → Given c o args → Right c w (calling o w args)
+  calling_right op.Call args q = plain_right c w k _ (call_plain w.heap args)
+  calling_right o args q = idle c w k
 
   -- ---- the table
 
   pub row_right : (g : Group) (o : Op) (args : List Value) → Given c o args → Right c w (row_of g o w args)
   row_right Names o args q = names_right o args q
-  row_right Operators o args q = family_right (family_of w.heap args) o args
+  row_right Making o args q = sequence_right c w k o args q
+  row_right Mapping o args q = dict_right c w k o args q
+  row_right Classing o args q = class_right c w k o args q
+  row_right Operators o args q = family_right (family_of w.heap args) o args q
   row_right Comparing o args q = plain_right c w k _ (int_plain o w.heap args)
-  row_right Calling o args q = plain_right c w k _ (call_plain w.heap args)
-  row_right Others o args q = idle c w k
+  row_right Testing o args q = truth_right (family_at_first w.heap args) o args q
+  row_right Accessing o args q = family_right (family_at_first w.heap args) o args q
+  row_right Containing o args q = family_right (family_at_second w.heap args) o args q
+  row_right Calling o args q = calling_right o args q
 
   -- ---- binding
 

@@ -5,6 +5,12 @@ pub mod Comparisons
 pub mod IntRows
 pub mod TextRows
 pub mod NameRows
+pub mod Asking
+pub mod Access
+pub mod Sequences
+pub mod Dicts
+pub mod TextCalls
+pub mod Classes
 pub mod CallRows
 pub mod Binding
 pub mod Table

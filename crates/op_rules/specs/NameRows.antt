@@ -11,7 +11,7 @@ use Rattle.op_forms.specs.declared.end.OpEnd.TheVariants as opend
 use Rattle.op_forms.specs.declared.op.Op.{Op}
 use Rattle.op_forms.specs.declared.op.Op.TheVariants as op
 use Rattle.op_forms.specs.declared.world.World.{World}
-use Rattle.op_forms.specs.Answers.{names_of}
+use Rattle.op_forms.specs.Answers.{unbuilt, names_of}
 use Rattle.op_forms.specs.Doing.{Bind, Unbind, Hold, Doing, nothing, ends, changes, makes}
 use Rattle.op_rules.specs.Kinds.{name_error, unbound_local_error}
 
@@ -38,12 +38,13 @@ global_row w name =
 abbrev pub setglobal_row : World → List ℕ → Value → Doing
 setglobal_row w name v = changes w.module (Bind name v)
 
-abbrev pub forgotten : World → List ℕ → Option Value → Doing
-forgotten w name None = ends (not_defined name)
-forgotten w name (Some v) = changes w.module (Unbind name)
+-- a name goes from a space where it has a value
+abbrev pub without_at : ℕ → List ℕ → Option Value → Doing
+without_at n name None = ends (not_defined name)
+without_at n name (Some v) = changes n (Unbind name)
 
 abbrev pub delglobal_row : World → List ℕ → Doing
-delglobal_row w name = forgotten w name (value_at (names_of (slice_get w.heap w.module)) name)
+delglobal_row w name = without_at w.module name (value_at (names_of (slice_get w.heap w.module)) name)
 
 abbrev pub set_or : OpEnd → Value → OpEnd
 set_or other value.Unset = other
@@ -85,6 +86,26 @@ freeget_row h cell name = set_or (no_free name) (held_by h cell)
 abbrev pub freedel_row : List Object → Value → List ℕ → Doing
 freedel_row h cell name = emptied cell (no_free name) (held_by h cell)
 
+-- a class's names while its block runs (reference, section 7.8)
+abbrev pub space_row : List Object → Doing
+space_row h = makes h (object.Space [])
+
+-- the name in the space, or else as in the module
+abbrev pub spaceget_row : World → Value → List ℕ → OpEnd
+spaceget_row w space name = value_or (value_at (names_of (object_of w.heap space)) name) (global_row w name)
+
+abbrev pub spaceset_row : Value → List ℕ → Value → Doing
+spaceset_row (value.Obj n) name v = changes n (Bind name v)
+spaceset_row other name v = nothing
+
+abbrev pub spacedel_row : List Object → Value → List ℕ → Doing
+spacedel_row h (value.Obj n) name = without_at n name (value_at (names_of (slice_get h n)) name)
+spacedel_row h other name = nothing
+
+-- a built-in name, whatever the module binds
+abbrev pub native_row : World → List ℕ → OpEnd
+native_row w name = value_or (value_at (names_of (slice_get w.heap w.builtins)) name) unbuilt
+
 abbrev pub names : Op → World → List Value → Doing
 names op.Global w (value.Str name ∷ []) = ends (global_row w name)
 names op.SetGlobal w (value.Str name ∷ v ∷ []) = setglobal_row w name v
@@ -96,4 +117,9 @@ names op.CellGet w (cell ∷ value.Str name ∷ []) = ends (cellget_row w.heap c
 names op.CellDel w (cell ∷ value.Str name ∷ []) = celldel_row w.heap cell name
 names op.FreeGet w (cell ∷ value.Str name ∷ []) = ends (freeget_row w.heap cell name)
 names op.FreeDel w (cell ∷ value.Str name ∷ []) = freedel_row w.heap cell name
+names op.Space w [] = space_row w.heap
+names op.SpaceGet w (space ∷ value.Str name ∷ []) = ends (spaceget_row w space name)
+names op.SpaceSet w (space ∷ value.Str name ∷ v ∷ []) = spaceset_row space name v
+names op.SpaceDel w (space ∷ value.Str name ∷ []) = spacedel_row w.heap space name
+names op.Native w (value.Str name ∷ []) = ends (native_row w name)
 names o w args = nothing

@@ -12,7 +12,11 @@ use Rattle.op_forms.specs.declared.world.World.{World}
 use Rattle.op_forms.specs.Answers.{Answer}
 use Rattle.op_forms.specs.Doing.{Doing, nothing, ends, answer}
 use Rattle.op_rules.specs.NameRows.{names}
+use Rattle.op_rules.specs.Access.{other_row}
+use Rattle.op_rules.specs.Classes.{class_row}
+use Rattle.op_rules.specs.Dicts.{dict_row}
 use Rattle.op_rules.specs.IntRows.{int_row}
+use Rattle.op_rules.specs.Sequences.{sequence_row}
 use Rattle.op_rules.specs.TextRows.{text_row}
 use Rattle.op_rules.specs.CallRows.{call_row}
 use Rattle.op_rules.specs.Binding.{bound}
@@ -51,20 +55,45 @@ family_of h [] = family.Integers
 family_of h (v ∷ vs) = first_family (value_family h v) (family_of h vs)
 
 abbrev pub family_row : Family → Op → List Object → List Value → Doing
-family_row family.Integers o h args = ends (int_row o h args)
+family_row family.Classes o h args = class_row o h args
+family_row family.Dicts o h args = dict_row o h args
+family_row family.Sequences o h args = sequence_row o h args
 family_row family.Texts o h args = ends (text_row o h args)
-family_row other o h args = nothing
+family_row family.Integers o h args = ends (other_row o h args)
 
 -- an operation that goes by the kinds of all its operands
 abbrev pub by_family : Op → List Object → List Value → Doing
 by_family o h args = family_row (family_of h args) o h args
 
+-- the family of the first, and of the second of two
+abbrev pub family_at_first : List Object → List Value → Family
+family_at_first h [] = family.Integers
+family_at_first h (v ∷ vs) = value_family h v
+
+abbrev pub family_at_second : List Object → List Value → Family
+family_at_second h [] = family.Integers
+family_at_second h (v ∷ vs) = family_at_first h vs
+
+-- only what has methods of its own decides its truth by them
+abbrev pub truth_of : Family → Op → List Object → List Value → Doing
+truth_of family.Classes o h args = class_row o h args
+truth_of f o h args = ends (int_row o h args)
+
+abbrev pub calling : Op → World → List Value → Doing
+calling op.Call w args = ends (call_row w.heap args)
+calling o w args = nothing
+
 pub data Group : Type 0 where
   Names : Group
+  Making : Group
+  Mapping : Group
+  Classing : Group
   Operators : Group
   Comparing : Group
+  Testing : Group
+  Accessing : Group
+  Containing : Group
   Calling : Group
-  Others : Group
 
 abbrev pub group : Op → Group
 group op.Global = Names
@@ -77,6 +106,33 @@ group op.CellGet = Names
 group op.CellDel = Names
 group op.FreeGet = Names
 group op.FreeDel = Names
+group op.Space = Names
+group op.SpaceGet = Names
+group op.SpaceSet = Names
+group op.SpaceDel = Names
+group op.Native = Names
+group op.Tuple = Making
+group op.List = Making
+group op.Push = Making
+group op.Extend = Making
+group op.Unpack = Making
+group op.UnpackStar = Making
+group op.Dict = Mapping
+group op.Put = Mapping
+group op.Merge = Mapping
+group op.KeyPut = Mapping
+group op.KeyMerge = Mapping
+group op.Class = Classing
+group op.Attr = Classing
+group op.SetAttr = Classing
+group op.DelAttr = Classing
+group op.Find = Classing
+group op.Manager = Classing
+group op.Exc = Classing
+group op.Raise = Classing
+group op.Match = Classing
+group op.ClassOf = Classing
+group op.Trace = Classing
 group op.Add = Operators
 group op.Sub = Operators
 group op.Mul = Operators
@@ -102,17 +158,30 @@ group op.Ne = Comparing
 group op.Is = Comparing
 group op.IsNot = Comparing
 group op.Not = Comparing
-group op.Truth = Comparing
+group op.Truth = Testing
+group op.Index = Accessing
+group op.SetIndex = Accessing
+group op.DelIndex = Accessing
+group op.Slice = Accessing
+group op.Iter = Accessing
+group op.Next = Accessing
+group op.In = Containing
+group op.Func = Calling
 group op.Call = Calling
-group other = Others
+group op.CallX = Calling
 
--- what an operation does; one that isn't built yet is the stop Unbuilt
+-- what an operation does; a row that isn't there yet is the stop Unbuilt
 abbrev pub row_of : Group → Op → World → List Value → Doing
 row_of Names o w args = names o w args
+row_of Making o w args = sequence_row o w.heap args
+row_of Mapping o w args = dict_row o w.heap args
+row_of Classing o w args = class_row o w.heap args
 row_of Operators o w args = by_family o w.heap args
 row_of Comparing o w args = ends (int_row o w.heap args)
-row_of Calling o w args = ends (call_row w.heap args)
-row_of Others o w args = nothing
+row_of Testing o w args = truth_of (family_at_first w.heap args) o w.heap args
+row_of Accessing o w args = family_row (family_at_first w.heap args) o w.heap args
+row_of Containing o w args = family_row (family_at_second w.heap args) o w.heap args
+row_of Calling o w args = calling o w args
 
 abbrev pub doing : Op → World → List Value → Doing
 doing o w args = row_of (group o) o w args

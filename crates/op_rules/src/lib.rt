@@ -2,12 +2,14 @@
 #![tactic(auto)]
 
 mod arithmetic;
+mod asking;
 mod family;
 mod folding;
 mod kinds;
 mod laws;
 
 pub use arithmetic::{Computed, compute, compute_one};
+pub use asking::{ask, built_in};
 pub use family::Family;
 pub use folding::fold;
 pub use kinds::{kind_name, no_operand, no_operands, no_order, raised};
