@@ -31,7 +31,7 @@ use Rattle.op_rules.proofs.Access.{other_right}
 use Rattle.op_rules.proofs.Classes.{class_right}
 use Rattle.op_rules.proofs.Dicts.{dict_right}
 use Rattle.op_rules.proofs.Sequences.{sequence_right}
-use Rattle.op_rules.proofs.Plain.{plain_right, int_plain, text_plain, call_plain, truth_after_plain, length_after_plain}
+use Rattle.op_rules.proofs.Plain.{plain_right, text_plain, call_plain, truth_after_plain, length_after_plain}
 use Rattle.op_rules.proofs.Usual.{ended, fails, failed, idle, given_right, change_right, made_right, if_end}
 
 -- once it is bound nothing is asked any more
@@ -139,7 +139,7 @@ module _ (c : Claim) (w : World) (k : Closed c w) where
 
   truth_right : (f : Family) (o : Op) (args : List Value) → Given c o args → Right c w (truth_of f o w.heap args)
   truth_right family.Classes o args q = class_right c w k o args q
-  truth_right f o args q = plain_right c w k _ (int_plain o w.heap args)
+  truth_right f o args q = other_right c w k o args q
 
   calling_right : (o : Op) (args : List Value) → Given c o args → Right c w (calling o w args)
   calling_right op.Call args q = plain_right c w k _ (call_plain w.heap args)
@@ -153,7 +153,7 @@ module _ (c : Claim) (w : World) (k : Closed c w) where
   row_right Mapping o args q = dict_right c w k o args q
   row_right Classing o args q = class_right c w k o args q
   row_right Operators o args q = family_right (family_of w.heap args) o args q
-  row_right Comparing o args q = plain_right c w k _ (int_plain o w.heap args)
+  row_right Comparing o args q = other_right c w k o args q
   row_right Testing o args q = truth_right (family_at_first w.heap args) o args q
   row_right Accessing o args q = family_right (family_at_first w.heap args) o args q
   row_right Containing o args q = family_right (family_at_second w.heap args) o args q

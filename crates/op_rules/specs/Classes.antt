@@ -6,10 +6,10 @@ use Rattle.nu_value.specs.Names.{NameList}
 use Rattle.op_forms.specs.declared.op.Op.{Op}
 use Rattle.op_forms.specs.declared.op.Op.TheVariants as op
 use Rattle.op_forms.specs.Doing.{Doing, nothing, ends}
-use Rattle.op_rules.specs.IntRows.{int_row}
+use Rattle.op_rules.specs.Access.{other_row}
 
 abbrev pub class_row : Op → List Object → List Value → Doing
-class_row op.Truth h args = ends (int_row op.Truth h args)
+class_row op.Truth h args = ends (other_row op.Truth h args)
 class_row o h args = nothing
 
 -- a built-in of this name, with its receiver or none, is called with arguments and keywords

@@ -15,7 +15,6 @@ use Rattle.op_rules.specs.NameRows.{names}
 use Rattle.op_rules.specs.Access.{other_row}
 use Rattle.op_rules.specs.Classes.{class_row}
 use Rattle.op_rules.specs.Dicts.{dict_row}
-use Rattle.op_rules.specs.IntRows.{int_row}
 use Rattle.op_rules.specs.Sequences.{sequence_row}
 use Rattle.op_rules.specs.TextRows.{text_row}
 use Rattle.op_rules.specs.CallRows.{call_row}
@@ -77,7 +76,7 @@ family_at_second h (v ∷ vs) = family_at_first h vs
 -- only what has methods of its own decides its truth by them
 abbrev pub truth_of : Family → Op → List Object → List Value → Doing
 truth_of family.Classes o h args = class_row o h args
-truth_of f o h args = ends (int_row o h args)
+truth_of f o h args = ends (other_row o h args)
 
 abbrev pub calling : Op → World → List Value → Doing
 calling op.Call w args = ends (call_row w.heap args)
@@ -177,7 +176,7 @@ row_of Making o w args = sequence_row o w.heap args
 row_of Mapping o w args = dict_row o w.heap args
 row_of Classing o w args = class_row o w.heap args
 row_of Operators o w args = by_family o w.heap args
-row_of Comparing o w args = ends (int_row o w.heap args)
+row_of Comparing o w args = ends (other_row o w.heap args)
 row_of Testing o w args = truth_of (family_at_first w.heap args) o w.heap args
 row_of Accessing o w args = family_row (family_at_first w.heap args) o w.heap args
 row_of Containing o w args = family_row (family_at_second w.heap args) o w.heap args

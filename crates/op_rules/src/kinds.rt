@@ -1,6 +1,7 @@
 //! The kinds of values by name, and the exceptions that operations raise.
 
-ghost use Rattle.std.specs.Prelude.{◌≡◌, IfOk, slice_get};
+ghost use Rattle.std.specs.Prelude.{◌≡◌, ◌++◌, IfOk, codes, slice_get};
+ghost use Rattle.op_rules.specs.Access as access;
 ghost use Rattle.op_rules.specs.Kinds as spec;
 
 use nu_text::RcStr;
@@ -108,4 +109,35 @@ pub fn no_order(
     text.push_str(kind_name(heap, b))?;
     text.push_str("'")?;
     raised(alloc, 35, text.as_str())
+}
+
+// The error of a value: its kind behind a quote, and what is said of it.
+fn kind_error(alloc: Global, heap: &Heap, value: &Value, behind: &str) -> Result<OpEnd, AllocError>
+    ensures { IfOk result (λ e. e ≡ spec.type_error (codes "'" ++ spec.kind_name heap.now value.now ++ behind.now)) }
+{
+    let mut text = String::from_str(alloc, "'")?;
+    text.push_str(kind_name(heap, value))?;
+    text.push_str(behind)?;
+    raised(alloc, 35, text.as_str())
+}
+
+/// The error of a value without items.
+pub fn not_subscriptable(alloc: Global, heap: &Heap, value: &Value) -> Result<OpEnd, AllocError>
+    ensures { IfOk result (λ e. e ≡ access.not_subscriptable heap.now value.now) }
+{
+    kind_error(alloc, heap, value, "' object is not subscriptable")
+}
+
+/// The error of a value whose items don't change.
+pub fn no_item_changes(alloc: Global, heap: &Heap, value: &Value) -> Result<OpEnd, AllocError>
+    ensures { IfOk result (λ e. e ≡ access.no_item_changes heap.now value.now) }
+{
+    kind_error(alloc, heap, value, "' object does not support item changes")
+}
+
+/// The error of a value that is no iterator.
+pub fn no_iterator(alloc: Global, heap: &Heap, value: &Value) -> Result<OpEnd, AllocError>
+    ensures { IfOk result (λ e. e ≡ access.no_iterator heap.now value.now) }
+{
+    kind_error(alloc, heap, value, "' object is not an iterator")
 }

@@ -3,14 +3,19 @@
 
 mod arithmetic;
 mod asking;
+mod changes;
 mod family;
 mod folding;
 mod kinds;
 mod laws;
 
 pub use arithmetic::{Computed, compute, compute_one};
-pub use asking::{ask, built_in};
+pub use asking::{ask, asks_in, asks_iterator, built_in};
+pub use changes::{bind_in, unbind_in};
 pub use family::Family;
 pub use folding::fold;
-pub use kinds::{kind_name, no_operand, no_operands, no_order, raised};
+pub use kinds::{
+    kind_name, no_item_changes, no_iterator, no_operand, no_operands, no_order, not_subscriptable,
+    raised,
+};
 pub use laws::{finishing_keeps_sound, rows_keep_sound, the_start_is_sound};

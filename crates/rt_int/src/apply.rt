@@ -1,9 +1,11 @@
 //! The table's way to the rows.
 
 ghost use Rattle.std.specs.Prelude.{◌≡◌, IfOk};
+ghost use Rattle.op_rules.specs.Access as access;
 ghost use Rattle.op_rules.specs.Comparisons as comparisons;
 ghost use Rattle.op_rules.specs.IntRows as spec;
 
+use crate::access::{delindex_row, in_row, index_row, iter_row, next_row, setindex_row, slice_row};
 use crate::rows::{
     eq_row, is_row, isnot_row, ne_row, not_row, number_one, number_order, number_pair, truth_row,
 };
@@ -93,7 +95,7 @@ fn truth(heap: &Heap, args: &[Value]) -> OpEnd
     }
 }
 
-/// The rows on integers, on truth and on any two values. They leave the heap as it is.
+/// The rows on integers, on truth, on any two values and on values without items. They leave the heap as it is.
 pub fn apply_int(
     alloc: Global,
     op: Op,
@@ -101,7 +103,7 @@ pub fn apply_int(
     _codes: &Codes,
     args: &[Value],
 ) -> Result<OpEnd, AllocError>
-    ensures end { IfOk result (λ e. e ≡ spec.int_row op heap.old args.now) }
+    ensures end { IfOk result (λ e. e ≡ access.other_row op heap.old args.now) }
     ensures heap { heap.new ≡ heap.old }
 {
     match op {
@@ -131,6 +133,13 @@ pub fn apply_int(
         Op::IsNot => Ok(difference(args)),
         Op::Not => Ok(negation(args)),
         Op::Truth => Ok(truth(heap, args)),
+        Op::Index => index_row(alloc, heap, args),
+        Op::SetIndex => setindex_row(alloc, heap, args),
+        Op::DelIndex => delindex_row(alloc, heap, args),
+        Op::Slice => slice_row(alloc, heap, args),
+        Op::Iter => iter_row(alloc, heap, args),
+        Op::Next => next_row(alloc, heap, args),
+        Op::In => in_row(alloc, heap, args),
         _ => Ok(OpEnd::Stop(StopKind::Unbuilt)),
     }
 }

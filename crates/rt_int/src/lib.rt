@@ -1,6 +1,7 @@
 //! The rows of the table on integers, on truth, and on any two values: arithmetic, comparisons, `is` and `not`.
 #![tactic(auto)]
 
+mod access;
 mod apply;
 mod laws;
 mod rows;

@@ -4,6 +4,7 @@
 mod arguments;
 mod calls;
 mod finishing;
+mod named;
 mod names;
 mod table;
 

@@ -2,16 +2,17 @@
 
 ghost use Rattle.std.specs.Prelude.{◌≡◌, ◌++◌, IfOk, OnOk, slice_get, option_copied};
 ghost use Rattle.nu_value.specs.Names.{value_at};
+ghost use Rattle.nu_value.specs.Same.{object_of};
 ghost use Rattle.op_rules.specs.Kinds as kinds;
-ghost use Rattle.op_forms.specs.Doing.{Bind, Unbind, Hold, changed_by, put_at, Did, DidIn};
+ghost use Rattle.op_forms.specs.Doing.{Hold, changed_by, put_at, Did, DidIn};
 ghost use Rattle.op_forms.specs.Answers as answers;
 ghost use Rattle.op_rules.specs.NameRows as spec;
 
 use nu_run::StopKind;
 use nu_text::RcStr;
-use nu_value::{Heap, Object, Value};
+use nu_value::{Heap, Names, Object, Value};
 use op_forms::{OpEnd, World};
-use op_rules::raised;
+use op_rules::{bind_in, raised, unbind_in};
 use std::alloc::{AllocError, Global};
 
 pub const NAME_ERROR: u64 = 30;
@@ -86,31 +87,6 @@ pub fn global_row(alloc: Global, world: &World, name: &str) -> Result<OpEnd, All
     }
 }
 
-fn bind(object: &mut Object, name: RcStr, value: Value) -> Result<(), AllocError>
-    ensures { OnOk result (object.new ≡ changed_by (Bind name value) object.old) }
-{
-    match object {
-        Object::Space(names) => names.set(name, value),
-        Object::Instance { fields, .. } => fields.set(name, value),
-        Object::Exception { fields, .. } => fields.set(name, value),
-        Object::Class {
-            own,
-            native: false,
-            ..
-        } => own.set(name, value),
-        _ => Ok(()),
-    }
-}
-
-fn bind_in(heap: &mut Heap, space: u64, name: RcStr, value: Value) -> Result<(), AllocError>
-    ensures { OnOk result (heap.new ≡ put_at heap.old space (Bind name value) (slice_get heap.old space)) }
-{
-    match heap.get_mut(space) {
-        Some(object) => bind(object, name, value),
-        None => Ok(()),
-    }
-}
-
 /// Gives a name of the module its value.
 pub fn setglobal_row(world: &mut World, name: &RcStr, value: &Value) -> Result<OpEnd, AllocError>
     ensures { IfOk result (λ e. DidIn (spec.setglobal_row world.old name.now value.now) world.old world.new e) }
@@ -120,36 +96,15 @@ pub fn setglobal_row(world: &mut World, name: &RcStr, value: &Value) -> Result<O
     Ok(OpEnd::Give(Value::None))
 }
 
-fn unbind(object: &mut Object, name: &str)
-    ensures { object.new ≡ changed_by (Unbind name.now) object.old }
+// Takes a name out of a space.
+fn without(alloc: Global, heap: &mut Heap, space: u64, name: &str) -> Result<OpEnd, AllocError>
+    ensures { IfOk result (λ e. Did (spec.without_at space name.now (value_at (answers.names_of (slice_get heap.old space)) name.now)) heap.old heap.new e) }
 {
-    match object {
-        Object::Space(names) => {
-            let _ = names.remove(name);
-        }
-        Object::Instance { fields, .. } => {
-            let _ = fields.remove(name);
-        }
-        Object::Exception { fields, .. } => {
-            let _ = fields.remove(name);
-        }
-        Object::Class {
-            own,
-            native: false,
-            ..
-        } => {
-            let _ = own.remove(name);
-        }
-        _ => {}
+    if in_space(heap, space, name).is_none() {
+        return not_defined(alloc, name);
     }
-}
-
-fn unbind_in(heap: &mut Heap, space: u64, name: &str)
-    ensures { heap.new ≡ put_at heap.old space (Unbind name.now) (slice_get heap.old space) }
-{
-    if let Some(object) = heap.get_mut(space) {
-        unbind(object, name);
-    }
+    unbind_in(heap, space, name);
+    Ok(OpEnd::Give(Value::None))
 }
 
 /// Takes a name out of the module.
@@ -157,11 +112,7 @@ pub fn delglobal_row(alloc: Global, world: &mut World, name: &str) -> Result<OpE
     ensures { IfOk result (λ e. DidIn (spec.delglobal_row world.old name.now) world.old world.new e) }
 {
     let module = world.module;
-    if in_space(&world.heap, module, name).is_none() {
-        return not_defined(alloc, name);
-    }
-    unbind_in(&mut world.heap, module, name);
-    Ok(OpEnd::Give(Value::None))
+    without(alloc, &mut world.heap, module, name)
 }
 
 /// The value of a local variable, if it has one.
@@ -289,5 +240,78 @@ pub fn freedel_row(
     match held_by(heap, cell)? {
         Value::Unset => no_free(alloc, name),
         _ => Ok(fill(heap, cell, Value::Unset)),
+    }
+}
+
+/// The names of a class while its block runs (reference, section 7.8).
+pub fn space_row(alloc: Global, heap: &mut Heap) -> Result<OpEnd, AllocError>
+    ensures { IfOk result (λ e. Did (spec.space_row heap.old) heap.old heap.new e) }
+{
+    let number = heap.make(Object::Space(Names::new(alloc)))?;
+    Ok(OpEnd::Give(Value::Obj(number)))
+}
+
+fn in_space_of<'a>(heap: &'a Heap, space: &Value, name: &str) -> Option<&'a Value>
+    ensures { option_copied result ≡ value_at (answers.names_of (object_of heap.now space.now)) name.now }
+{
+    match space {
+        Value::Obj(number) => in_space(heap, *number, name),
+        _ => None,
+    }
+}
+
+/// The value of a name in a space, or else in the module or among the built-in names.
+pub fn spaceget_row(
+    alloc: Global,
+    world: &World,
+    space: &Value,
+    name: &str,
+) -> Result<OpEnd, AllocError>
+    ensures { IfOk result (λ e. e ≡ spec.spaceget_row world.now space.now name.now) }
+{
+    match in_space_of(&world.heap, space, name) {
+        Some(value) => Ok(OpEnd::Give(value.copy()?)),
+        None => global_row(alloc, world, name),
+    }
+}
+
+/// Gives a name of a space its value.
+pub fn spaceset_row(
+    heap: &mut Heap,
+    space: &Value,
+    name: &RcStr,
+    value: &Value,
+) -> Result<OpEnd, AllocError>
+    ensures { IfOk result (λ e. Did (spec.spaceset_row space.now name.now value.now) heap.old heap.new e) }
+{
+    let Value::Obj(number) = space else {
+        return Ok(OpEnd::Stop(StopKind::Unbuilt));
+    };
+    bind_in(heap, *number, name.share()?, value.copy()?)?;
+    Ok(OpEnd::Give(Value::None))
+}
+
+/// Takes a name out of a space.
+pub fn spacedel_row(
+    alloc: Global,
+    heap: &mut Heap,
+    space: &Value,
+    name: &str,
+) -> Result<OpEnd, AllocError>
+    ensures { IfOk result (λ e. Did (spec.spacedel_row heap.old space.now name.now) heap.old heap.new e) }
+{
+    match space {
+        Value::Obj(number) => without(alloc, heap, *number, name),
+        _ => Ok(OpEnd::Stop(StopKind::Unbuilt)),
+    }
+}
+
+/// The value of a built-in name, whatever the module binds.
+pub fn native_row(world: &World, name: &str) -> Result<OpEnd, AllocError>
+    ensures { IfOk result (λ e. e ≡ spec.native_row world.now name.now) }
+{
+    match in_space(&world.heap, world.builtins, name) {
+        Some(value) => Ok(OpEnd::Give(value.copy()?)),
+        None => Ok(OpEnd::Stop(StopKind::Unbuilt)),
     }
 }

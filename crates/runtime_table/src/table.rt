@@ -1,24 +1,19 @@
 //! What an operation does to a world.
 
-ghost use Rattle.std.specs.Prelude.{◌≡◌, IfOk, OnOk, true, Ok, [], ◌∷◌};
+ghost use Rattle.std.specs.Prelude.{◌≡◌, IfOk, OnOk, true, Ok};
 ghost use Rattle.nu_run.specs.declared.StopKind.TheVariants as stop;
 ghost use Rattle.op_forms.specs.declared.end.OpEnd.TheVariants as opend;
-ghost use Rattle.op_forms.specs.declared.op.Op.TheVariants as op;
 ghost use Rattle.op_forms.specs.Answers.{after};
 ghost use Rattle.op_forms.specs.Doing.{DidIn, ends};
 ghost use Rattle.op_forms.specs.Fits.{fits};
 ghost use Rattle.op_forms.specs.Sound.{Sound, EndIn};
 ghost use Rattle.op_rules.specs.Binding.{bound_end};
-ghost use Rattle.op_rules.specs.CallRows as spec_calls;
-ghost use Rattle.op_rules.specs.IntRows.{int_row};
-ghost use Rattle.op_rules.specs.NameRows.{names};
+ghost use Rattle.op_rules.specs.Access.{other_row};
+ghost use Rattle.op_rules.specs.Classes as classes;
 ghost use Rattle.op_rules.specs.Table as spec;
 
 use crate::calls::call_row;
-use crate::names::{
-    cell_row, celldel_row, cellget_row, cellset_row, delglobal_row, freedel_row, freeget_row,
-    global_row, local_row, setglobal_row,
-};
+use crate::named::names_row;
 use nu_run::StopKind;
 use nu_value::{Heap, Object, Value};
 use op_forms::{Op, OpEnd, World};
@@ -66,15 +61,61 @@ fn family_of(heap: &Heap, args: &[Value]) -> Family
     }
 }
 
-// An operation that goes by the kinds of its operands.
+// The family of the first operand.
+fn family_at_first(heap: &Heap, args: &[Value]) -> Family
+    ensures { result ≡ spec.family_at_first heap.now args.now }
+{
+    match args {
+        [] => Family::Integers,
+        [value, ..] => value_family(heap, value),
+    }
+}
+
+// The family of the second operand.
+fn family_at_second(heap: &Heap, args: &[Value]) -> Family
+    ensures { result ≡ spec.family_at_second heap.now args.now }
+{
+    match args {
+        [] => Family::Integers,
+        [_, values @ ..] => family_at_first(heap, values),
+    }
+}
+
+// What has methods of its own is true, until these are asked.
+fn class_row(alloc: Global, op: Op, world: &mut World, args: &[Value]) -> Result<OpEnd, AllocError>
+    ensures { IfOk result (λ e. DidIn (classes.class_row op world.old.heap args.now) world.old world.new e) }
+{
+    match op {
+        Op::Truth => apply_int(alloc, Op::Truth, &mut world.heap, &world.codes, args),
+        _ => unbuilt(),
+    }
+}
+
+// The row of a family.
+fn family_row(
+    alloc: Global,
+    family: Family,
+    op: Op,
+    world: &mut World,
+    args: &[Value],
+) -> Result<OpEnd, AllocError>
+    ensures { IfOk result (λ e. DidIn (spec.family_row family op world.old.heap args.now) world.old world.new e) }
+{
+    match family {
+        Family::Classes => class_row(alloc, op, world, args),
+        Family::Dicts => unbuilt(),
+        Family::Sequences => unbuilt(),
+        Family::Texts => apply_text(alloc, op, &mut world.heap, &world.codes, args),
+        Family::Integers => apply_int(alloc, op, &mut world.heap, &world.codes, args),
+    }
+}
+
+// An operation that goes by the kinds of all its operands.
 fn by_family(alloc: Global, op: Op, world: &mut World, args: &[Value]) -> Result<OpEnd, AllocError>
     ensures { IfOk result (λ e. DidIn (spec.by_family op world.old.heap args.now) world.old world.new e) }
 {
-    match family_of(&world.heap, args) {
-        Family::Integers => apply_int(alloc, op, &mut world.heap, &world.codes, args),
-        Family::Texts => apply_text(alloc, op, &mut world.heap, &world.codes, args),
-        Family::Classes | Family::Dicts | Family::Sequences => Ok(OpEnd::Stop(StopKind::Unbuilt)),
-    }
+    let family = family_of(&world.heap, args);
+    family_row(alloc, family, op, world, args)
 }
 
 /// What the operation does to arguments that fit it: how it ends, and the world after it. A sound world stays sound, and the end
@@ -114,144 +155,52 @@ fn bound(world: &mut World, end: OpEnd) -> OpEnd
     }
 }
 
-fn unbuilt() -> Result<OpEnd, AllocError>
+/// What isn't there yet.
+pub fn unbuilt() -> Result<OpEnd, AllocError>
     ensures { result ≡ Ok (opend.Stop stop.Unbuilt) }
 {
     Ok(OpEnd::Stop(StopKind::Unbuilt))
 }
 
-fn global(alloc: Global, world: &mut World, name: &Value) -> Result<OpEnd, AllocError>
-    ensures { IfOk result (λ e. DidIn (names op.Global world.old (name.now ∷ [])) world.old world.new e) }
-{
-    match name {
-        Value::Str(name) => global_row(alloc, world, name.as_str()),
-        _ => unbuilt(),
-    }
-}
-
-fn setglobal(world: &mut World, name: &Value, value: &Value) -> Result<OpEnd, AllocError>
-    ensures { IfOk result (λ e. DidIn (names op.SetGlobal world.old (name.now ∷ value.now ∷ [])) world.old world.new e) }
-{
-    match name {
-        Value::Str(name) => setglobal_row(world, name, value),
-        _ => unbuilt(),
-    }
-}
-
-fn delglobal(alloc: Global, world: &mut World, name: &Value) -> Result<OpEnd, AllocError>
-    ensures { IfOk result (λ e. DidIn (names op.DelGlobal world.old (name.now ∷ [])) world.old world.new e) }
-{
-    match name {
-        Value::Str(name) => delglobal_row(alloc, world, name.as_str()),
-        _ => unbuilt(),
-    }
-}
-
-fn local(
-    alloc: Global,
-    _world: &mut World,
-    value: &Value,
-    name: &Value,
-) -> Result<OpEnd, AllocError>
-    ensures { IfOk result (λ e. DidIn (names op.Local _world.old (value.now ∷ name.now ∷ [])) _world.old _world.new e) }
-{
-    match name {
-        Value::Str(name) => local_row(alloc, value, name.as_str()),
-        _ => unbuilt(),
-    }
-}
-
-fn cellset(world: &mut World, cell: &Value, value: &Value) -> Result<OpEnd, AllocError>
-    ensures { IfOk result (λ e. DidIn (names op.CellSet world.old (cell.now ∷ value.now ∷ [])) world.old world.new e) }
-{
-    cellset_row(&mut world.heap, cell, value)
-}
-
-fn cellget(
-    alloc: Global,
-    world: &mut World,
-    cell: &Value,
-    name: &Value,
-) -> Result<OpEnd, AllocError>
-    ensures { IfOk result (λ e. DidIn (names op.CellGet world.old (cell.now ∷ name.now ∷ [])) world.old world.new e) }
-{
-    match name {
-        Value::Str(name) => cellget_row(alloc, &world.heap, cell, name.as_str()),
-        _ => unbuilt(),
-    }
-}
-
-fn celldel(
-    alloc: Global,
-    world: &mut World,
-    cell: &Value,
-    name: &Value,
-) -> Result<OpEnd, AllocError>
-    ensures { IfOk result (λ e. DidIn (names op.CellDel world.old (cell.now ∷ name.now ∷ [])) world.old world.new e) }
-{
-    match name {
-        Value::Str(name) => celldel_row(alloc, &mut world.heap, cell, name.as_str()),
-        _ => unbuilt(),
-    }
-}
-
-fn freeget(
-    alloc: Global,
-    world: &mut World,
-    cell: &Value,
-    name: &Value,
-) -> Result<OpEnd, AllocError>
-    ensures { IfOk result (λ e. DidIn (names op.FreeGet world.old (cell.now ∷ name.now ∷ [])) world.old world.new e) }
-{
-    match name {
-        Value::Str(name) => freeget_row(alloc, &world.heap, cell, name.as_str()),
-        _ => unbuilt(),
-    }
-}
-
-fn freedel(
-    alloc: Global,
-    world: &mut World,
-    cell: &Value,
-    name: &Value,
-) -> Result<OpEnd, AllocError>
-    ensures { IfOk result (λ e. DidIn (names op.FreeDel world.old (cell.now ∷ name.now ∷ [])) world.old world.new e) }
-{
-    match name {
-        Value::Str(name) => freedel_row(alloc, &mut world.heap, cell, name.as_str()),
-        _ => unbuilt(),
-    }
-}
-
-// The rows on names and cells.
-fn names_row(alloc: Global, op: Op, world: &mut World, args: &[Value]) -> Result<OpEnd, AllocError>
-    ensures { IfOk result (λ e. DidIn (names op world.old args.now) world.old world.new e) }
-{
-    match (op, args) {
-        (Op::Global, [name]) => global(alloc, world, name),
-        (Op::SetGlobal, [name, value]) => setglobal(world, name, value),
-        (Op::DelGlobal, [name]) => delglobal(alloc, world, name),
-        (Op::Local, [value, name]) => local(alloc, world, value, name),
-        (Op::Cell, []) => cell_row(&mut world.heap),
-        (Op::CellSet, [cell, value]) => cellset(world, cell, value),
-        (Op::CellGet, [cell, name]) => cellget(alloc, world, cell, name),
-        (Op::CellDel, [cell, name]) => celldel(alloc, world, cell, name),
-        (Op::FreeGet, [cell, name]) => freeget(alloc, world, cell, name),
-        (Op::FreeDel, [cell, name]) => freedel(alloc, world, cell, name),
-        _ => unbuilt(),
-    }
-}
-
 fn comparing(alloc: Global, op: Op, world: &mut World, args: &[Value]) -> Result<OpEnd, AllocError>
-    ensures { IfOk result (λ e. DidIn (ends (int_row op world.old.heap args.now)) world.old world.new e) }
+    ensures { IfOk result (λ e. DidIn (ends (other_row op world.old.heap args.now)) world.old world.new e) }
 {
     apply_int(alloc, op, &mut world.heap, &world.codes, args)
 }
 
-fn calling(alloc: Global, world: &mut World, args: &[Value]) -> Result<OpEnd, AllocError>
-    ensures { IfOk result (λ e. DidIn (ends (spec_calls.call_row world.old.heap args.now)) world.old world.new e) }
+// Whether a value is true.
+fn testing(alloc: Global, op: Op, world: &mut World, args: &[Value]) -> Result<OpEnd, AllocError>
+    ensures { IfOk result (λ e. DidIn (spec.truth_of (spec.family_at_first world.old.heap args.now) op world.old.heap args.now) world.old world.new e) }
 {
-    call_row(alloc, &world.heap, args)
+    match family_at_first(&world.heap, args) {
+        Family::Classes => family_row(alloc, Family::Classes, op, world, args),
+        _ => comparing(alloc, op, world, args),
+    }
+}
+
+// An operation that goes by the kind of its first operand.
+fn accessing(alloc: Global, op: Op, world: &mut World, args: &[Value]) -> Result<OpEnd, AllocError>
+    ensures { IfOk result (λ e. DidIn (spec.family_row (spec.family_at_first world.old.heap args.now) op world.old.heap args.now) world.old world.new e) }
+{
+    let family = family_at_first(&world.heap, args);
+    family_row(alloc, family, op, world, args)
+}
+
+// An operation that goes by the kind of its second operand.
+fn containing(alloc: Global, op: Op, world: &mut World, args: &[Value]) -> Result<OpEnd, AllocError>
+    ensures { IfOk result (λ e. DidIn (spec.family_row (spec.family_at_second world.old.heap args.now) op world.old.heap args.now) world.old world.new e) }
+{
+    let family = family_at_second(&world.heap, args);
+    family_row(alloc, family, op, world, args)
+}
+
+fn calling(alloc: Global, op: Op, world: &mut World, args: &[Value]) -> Result<OpEnd, AllocError>
+    ensures { IfOk result (λ e. DidIn (spec.calling op world.old args.now) world.old world.new e) }
+{
+    match op {
+        Op::Call => call_row(alloc, &world.heap, args),
+        _ => unbuilt(),
+    }
 }
 
 // What the operation does before a function that it asks is bound.
@@ -268,11 +217,44 @@ fn done(alloc: Global, op: Op, world: &mut World, args: &[Value]) -> Result<OpEn
         | Op::CellGet
         | Op::CellDel
         | Op::FreeGet
-        | Op::FreeDel => names_row(alloc, op, world, args),
-        Op::Eq | Op::Ne | Op::Is | Op::IsNot | Op::Not | Op::Truth => comparing(
+        | Op::FreeDel
+        | Op::Space
+        | Op::SpaceGet
+        | Op::SpaceSet
+        | Op::SpaceDel
+        | Op::Native => names_row(alloc, op, world, args),
+        Op::Tuple | Op::List | Op::Push | Op::Extend | Op::Unpack | Op::UnpackStar => family_row(
+            alloc,
+            Family::Sequences,
+            op,
+            world,
+            args,
+        ),
+        Op::Dict | Op::Put | Op::Merge | Op::KeyPut | Op::KeyMerge => family_row(
+            alloc,
+            Family::Dicts,
+            op,
+            world,
+            args,
+        ),
+        Op::Class
+        | Op::Attr
+        | Op::SetAttr
+        | Op::DelAttr
+        | Op::Find
+        | Op::Manager
+        | Op::Exc
+        | Op::Raise
+        | Op::Match
+        | Op::ClassOf
+        | Op::Trace => family_row(alloc, Family::Classes, op, world, args),
+        Op::Eq | Op::Ne | Op::Is | Op::IsNot | Op::Not => comparing(alloc, op, world, args),
+        Op::Truth => testing(alloc, op, world, args),
+        Op::Index | Op::SetIndex | Op::DelIndex | Op::Slice | Op::Iter | Op::Next => accessing(
             alloc, op, world, args,
         ),
-        Op::Call => calling(alloc, world, args),
+        Op::In => containing(alloc, op, world, args),
+        Op::Func | Op::Call | Op::CallX => calling(alloc, op, world, args),
         Op::Add
         | Op::Sub
         | Op::Mul
@@ -293,6 +275,5 @@ fn done(alloc: Global, op: Op, world: &mut World, args: &[Value]) -> Result<OpEn
         | Op::Le
         | Op::Gt
         | Op::Ge => by_family(alloc, op, world, args),
-        _ => unbuilt(),
     }
 }
