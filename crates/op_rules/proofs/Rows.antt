@@ -165,9 +165,9 @@ module _ (c : Claim) (w : World) (k : Closed c w) where
   bound_right (opend.Ask f args names a) p = (idle c w k, tt)
   bound_right (opend.Give v) p = (ended c w k (opend.Give v) p, tt)
   bound_right (opend.Raise n args) p = (ended c w k (opend.Raise n args) p, tt)
-  bound_right (opend.Resume g how) p = (ended c w k (opend.Resume g how) p, tt)
+  bound_right (opend.Resume g how) p = (idle c w k, tt)
   bound_right (opend.Put text) p = (ended c w k (opend.Put text) p, tt)
-  bound_right opend.Line p = (ended c w k opend.Line p, tt)
+  bound_right opend.Line p = (idle c w k, tt)
   bound_right (opend.Stop kind) p = (ended c w k (opend.Stop kind) p, tt)
 
   -- ---- the values of asked functions

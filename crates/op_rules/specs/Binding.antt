@@ -15,6 +15,9 @@ bind w f args names a = nothing
 
 abbrev pub bound_end : World → OpEnd → Doing
 bound_end w (opend.Ask f args names a) = bind w f args names a
+-- no generator goes on yet, and no line is read
+bound_end w (opend.Resume g how) = nothing
+bound_end w opend.Line = nothing
 bound_end w other = ends other
 
 -- an end that may ask, and the objects then

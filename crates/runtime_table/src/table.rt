@@ -145,12 +145,12 @@ fn bound(world: &mut World, end: OpEnd) -> OpEnd
     ensures { DidIn (bound_end world.old end) world.old world.new result }
 {
     match end {
-        OpEnd::Ask(_, _, _, _) => OpEnd::Stop(StopKind::Unbuilt),
+        OpEnd::Ask(_, _, _, _) | OpEnd::Resume(_, _) | OpEnd::Line => OpEnd::Stop(
+            StopKind::Unbuilt,
+        ),
         OpEnd::Give(value) => OpEnd::Give(value),
         OpEnd::Raise(number, args) => OpEnd::Raise(number, args),
-        OpEnd::Resume(number, how) => OpEnd::Resume(number, how),
         OpEnd::Put(text) => OpEnd::Put(text),
-        OpEnd::Line => OpEnd::Line,
         OpEnd::Stop(kind) => OpEnd::Stop(kind),
     }
 }
