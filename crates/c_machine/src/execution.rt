@@ -21,7 +21,10 @@ use runtime_table::World;
 use std::alloc::{AllocError, Global};
 
 /// The names of the script's module.
-pub(crate) const SCRIPT_NAMES: u64 = 39;
+pub(crate) const SCRIPT_NAMES: u64 = 61;
+
+/// The number of the space of the built-in names.
+pub(crate) const BUILT_IN_NAMES: u64 = 37;
 
 /// A function that runs: its number, the number of its next statement, its registers and the pending exception; and the
 /// world of operations.

@@ -1,21 +1,18 @@
 //! How a machine starts: the code that it runs, and the world of operations.
 
-ghost use Rattle.std.specs.Prelude.{◌≡◌, ◌++◌, ◌∷◌, [], IfOk, map, reverse};
+ghost use Rattle.std.specs.Prelude.{◌≡◌, IfOk, map, reverse};
 ghost use Rattle.op_rules.specs.TableRules.{table_rules};
-ghost use Rattle.nu_value.specs.declared.object.Object.TheVariants as object;
-ghost use Rattle.op_rules.specs.Start.{first_objects};
-ghost use Rattle.nu_value.specs.Natives.{native_classes};
 ghost use Rattle.c_meaning.specs.Code as spec;
 ghost use Rattle.c_meaning.specs.Run as runs;
 ghost use Rattle.c_machine.specs.Starting.{first_execution};
 ghost use Rattle.c_machine.specs.Standing.{Outside, state_of, follows};
 
-use crate::execution::{Execution, SCRIPT_NAMES};
+use crate::execution::{BUILT_IN_NAMES, Execution, SCRIPT_NAMES};
 use crate::placing::statements_of;
 use c_meaning::{Body, CEnd, CProgram, Code, Function};
-use nu_text::RcStr;
-use nu_value::{Codes, Header, Heap, Names, Object, Slots, Value};
+use nu_value::{Codes, Header, Slots};
 use op_forms::World;
+use op_rules::first_heap;
 use sqlite_items::Items;
 use std::alloc::{AllocError, Global};
 
@@ -75,29 +72,6 @@ fn codes_of(alloc: Global, mut backwards: Vec<Header>) -> Result<Codes, AllocErr
     Ok(codes)
 }
 
-// A space with one name.
-fn space(alloc: Global, name: &str, value: Value) -> Result<Object, AllocError>
-    ensures { IfOk result (λ o. o ≡ object.Space ((name.now, value) ∷ [])) }
-{
-    let mut names = Names::new(alloc);
-    names.set(RcStr::from_str(alloc, name)?, value)?;
-    Ok(Object::Space(names))
-}
-
-fn first_heap(alloc: Global) -> Result<Heap, AllocError>
-    ensures { IfOk result (λ heap. heap ≡ native_classes ++ first_objects) }
-{
-    let mut heap = Heap::new(alloc)?;
-    heap.make(space(alloc, "print", Value::Obj(38))?)?;
-    heap.make(Object::Builtin {
-        name: RcStr::from_str(alloc, "print")?,
-        receiver: Value::Unset,
-    })?;
-    let main = Value::Str(RcStr::from_str(alloc, "__main__")?);
-    heap.make(space(alloc, "__name__", main)?)?;
-    Ok(heap)
-}
-
 impl Execution {
     /// Before any function has begun.
     pub(crate) fn new(alloc: Global, codes: Codes) -> Result<Execution, AllocError>
@@ -111,7 +85,7 @@ impl Execution {
             world: World {
                 heap: first_heap(alloc)?,
                 module: SCRIPT_NAMES,
-                builtins: 37,
+                builtins: BUILT_IN_NAMES,
                 codes,
             },
         })

@@ -8,6 +8,7 @@ mod family;
 mod folding;
 mod kinds;
 mod laws;
+mod start;
 
 pub use arithmetic::{Computed, compute, compute_one};
 pub use asking::{ask, asks_in, asks_iterator, built_in};
@@ -19,3 +20,4 @@ pub use kinds::{
     raised,
 };
 pub use laws::{finishing_keeps_sound, rows_keep_sound, the_start_is_sound};
+pub use start::{CLASS_NAMES, NATIVE_FUNCTIONS, first_heap};
