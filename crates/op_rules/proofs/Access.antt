@@ -11,7 +11,7 @@ use Rattle.op_forms.specs.declared.world.World.{World}
 use Rattle.op_forms.specs.Doing.{ends}
 use Rattle.op_forms.specs.Right.{Claim, Known, Closed, Given, EndOf, Right}
 use Rattle.op_rules.specs.Access.{other_iter, iter_of, other_next, next_of, asks_iterator, other_row}
-use Rattle.op_rules.proofs.Asking.{asks_right}
+use Rattle.op_rules.proofs.Asks.{asks_right}
 use Rattle.op_rules.proofs.Plain.{plain_right, int_plain}
 use Rattle.op_rules.proofs.Usual.{ended, fails, failed, idle}
 
@@ -42,7 +42,7 @@ module _ (c : Claim) (w : World) (k : Closed c w) where
   other_right op.Slice (x ∷ a ∷ b ∷ d ∷ []) q = failed c w k 35 _ (lit< tt)
   other_right op.Iter (x ∷ []) q = ended c w k _ (iter_end x q.0)
   other_right op.Next (x ∷ []) q = ended c w k _ (next_end x)
-  other_right op.In (v ∷ x ∷ []) q = ended c w k _ (asks_right c w k _ (v ∷ x ∷ []) [] _ (q.0, q.1.0, tt) tt tt tt)
+  other_right op.In (v ∷ x ∷ []) q = ended c w k _ (asks_right c w k _ (v ∷ x ∷ []) [] _ (q.0, (q.1.0, tt)) tt tt tt)
   other_right op.Index args q = idle c w k
   other_right op.SetIndex args q = idle c w k
   other_right op.DelIndex args q = idle c w k
