@@ -12,17 +12,15 @@ use Rattle.nu_value.specs.declared.value.Value.TheVariants as value
 use Rattle.op_forms.specs.declared.end.After.{After}
 use Rattle.op_forms.specs.declared.end.After.TheVariants as after
 use Rattle.op_forms.specs.declared.op.Op.{Op}
-use Rattle.op_forms.specs.Constants.{value_of}
 use Rattle.nu_calls.specs.Surroundings.{Surroundings, scene, with_scene, with_frames, kept_at, with_kept}
 use Rattle.nu_rows.specs.Rows.{End, Next, Raised, Return, Stopped, How, Send, Throw}
 use Rattle.op_forms.specs.Rules.{Rules}
 use Rattle.nu_calls.specs.Ends.{Result, Gives, Raises, Stops, Unsaid, Ending, Begun, Over, Calls, Starts, Wakes, Began, begun_by, generator_paused, generator_ended, call_ended, inside, outside, at_line}
 use Rattle.nu_calls.specs.Scripts.{report_function}
 use Rattle.nu_calls.specs.Traceback.{head_text, tail_text}
-use Rattle.flow_code.specs.declared.statement.Argument.{Argument}
-use Rattle.flow_code.specs.declared.statement.Argument.TheVariants as argument
-use Rattle.flow_code.specs.declared.statement.Operand.{Operand}
-use Rattle.flow_code.specs.declared.statement.Operand.TheVariants as operand
+use Rattle.code_forms.specs.declared.operand.Argument.{Argument}
+use Rattle.code_forms.specs.declared.operand.Operand.{Operand}
+use Rattle.code_forms.specs.Reading.{operand_value, argument_values}
 use Rattle.flow_code.specs.declared.statement.Statement.{Statement}
 use Rattle.flow_code.specs.declared.statement.Statement.TheVariants as flat
 
@@ -89,22 +87,11 @@ write f to v = record { code = f.code; given = f.given; cells = f.cells; registe
 
 -- what an operand holds, Unset too
 abbrev pub held : Frame → Operand → Option Value
-held f (operand.Register r) = f.registers r
-held f (operand.Const c) = Some (value_of c)
-
-abbrev pub argument_value : Frame → Argument → Option Value
-argument_value f (argument.Value a) = held f a
-argument_value f (argument.Name name) = Some (value.Str name)
-
-abbrev pub both : Option Value → Option (List Value) → Option (List Value)
-both (Some v) (Some vs) = Some (v ∷ vs)
-both None vs = None
-both (Some v) None = None
+held f a = operand_value f.registers a
 
 -- the arguments of an operation, if all have a value
 abbrev pub values : Frame → List Argument → Option (List Value)
-values f [] = Some []
-values f (a ∷ args) = both (argument_value f a) (values f args)
+values f args = argument_values f.registers args
 
 -- the frame with which a function begins: no register has a value
 abbrev pub fresh : ℕ → List Value → List Value → Frame

@@ -10,10 +10,12 @@ use Rattle.op_forms.specs.Constants.{value_of}
 use Rattle.nu_rows.specs.Rows.{End, Next, Leave, Raised, Return, Stopped, Undefined, Effect, Row, Act, Then, Loop, Sub, Entry, Instead}
 use Rattle.nu_rows.specs.Words.{ends_with, on_next, on_raised, choose, quiet}
 use Rattle.nu_calls.specs.Calls.{State, state_of, Language, unsaid, operates, on_line, yields}
-use Rattle.node_tree.specs.declared.node.Argument.{Argument}
-use Rattle.node_tree.specs.declared.node.Argument.TheVariants as argument
-use Rattle.node_tree.specs.declared.node.Operand.{Operand}
-use Rattle.node_tree.specs.declared.node.Operand.TheVariants as operand
+use Rattle.code_forms.specs.declared.operand.Argument.{Argument}
+use Rattle.code_forms.specs.declared.operand.Argument.TheVariants as argument
+use Rattle.code_forms.specs.declared.operand.Operand.{Operand}
+pub use Rattle.code_forms.specs.Reading.{both}
+use Rattle.code_forms.specs.Reading.{operand_value, argument_values}
+use Rattle.code_forms.specs.Reading as reading
 use Rattle.node_tree.specs.Blocks as tree
 
 -- a frame of a code: what it was handed for its parameters and free cells, and its temporaries, some without a value
@@ -49,8 +51,7 @@ write_row to v = Act (λ s. quiet (writes s to v))
 
 -- what an operand holds, Unset too
 abbrev pub held : Frame → Operand → Option Value
-held f (operand.Temp t) = f.temps t
-held f (operand.Const c) = Some (value_of c)
+held f a = operand_value f.temps a
 
 -- a value that is used; nothing is said of Unset, and of what has no value
 abbrev pub used : Option Value → End
@@ -79,19 +80,12 @@ stored to Undefined = ends_with Undefined
 abbrev pub storing : ℕ → R → R
 storing to r = Then r (stored to)
 
--- the arguments of an operation, if all have a value
 abbrev pub argument_value : Frame → Argument → Option Value
-argument_value f (argument.Value a) = held f a
-argument_value f (argument.Name name) = Some (value.Str name)
+argument_value f a = reading.argument_value f.temps a
 
-abbrev pub both : Option Value → Option (List Value) → Option (List Value)
-both (Some v) (Some vs) = Some (v ∷ vs)
-both None vs = None
-both (Some v) None = None
-
+-- the arguments of an operation, if all have a value
 abbrev pub values : Frame → List Argument → Option (List Value)
-values f [] = Some []
-values f (a ∷ args) = both (argument_value f a) (values f args)
+values f args = argument_values f.temps args
 
 abbrev pub operates_on : L → Op → State Frame → Option (List Value) → Entry (State Frame) Item
 operates_on l o s (Some args) = operates l o args s

@@ -7,8 +7,8 @@ use Rattle.nu_rows.specs.Words.{ends_with, on_next, on_raised, choose}
 use Rattle.nu_run.proofs.Runs.{prefix_trans}
 use Rattle.nu_rows.specs.Sim.{printed, Places, Ends, Below, other_places, other_ends}
 use Rattle.nu_rows.proofs.Grow.{turned_printed}
-use Rattle.node_tree.specs.declared.node.Operand.{Operand}
-use Rattle.node_tree.specs.declared.node.Operand.TheVariants as operand
+use Rattle.code_forms.specs.declared.operand.Operand.{Operand}
+use Rattle.code_forms.specs.declared.operand.Operand.TheVariants as operand
 use Rattle.node_tree.specs.Blocks as tree
 use Rattle.node_tree.specs.Nodes as nodes
 use Rattle.py_meaning.specs.Frames as python

@@ -4,7 +4,7 @@ use Rattle.nu_value.specs.declared.value.Value.{Value}
 use Rattle.nu_value.specs.declared.value.Value.TheVariants as value
 use Rattle.nu_rows.specs.Rows.{End, Next, Leave, Raised, Return, Stopped, Undefined}
 use Rattle.nu_rows.specs.Words.{ends_with, on_next, then_value, choose}
-use Rattle.node_tree.specs.declared.node.Operand.{Operand}
+use Rattle.code_forms.specs.declared.operand.Operand.{Operand}
 use Rattle.node_tree.specs.Blocks.{Block, Stop, append}
 use Rattle.node_tree.specs.Nodes as nodes
 use Rattle.py_meaning.specs.Frames as python

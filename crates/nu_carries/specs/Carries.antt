@@ -8,8 +8,8 @@ use Rattle.nu_rows.specs.Sim.{Places, Ends, Sim}
 use Rattle.op_forms.specs.Rules.{Rules}
 use Rattle.nu_calls.specs.Surroundings.{Surroundings, scene, kept_at}
 use Rattle.nu_calls.specs.Calls.{State, Pause}
-use Rattle.node_tree.specs.declared.node.Operand.{Operand}
-use Rattle.node_tree.specs.declared.node.Operand.TheVariants as operand
+use Rattle.code_forms.specs.declared.operand.Operand.{Operand}
+use Rattle.code_forms.specs.declared.operand.Operand.TheVariants as operand
 use Rattle.node_tree.specs.declared.script.NodeScript.{NodeScript}
 use Rattle.node_tree.specs.Blocks.{Block, append}
 use Rattle.node_tree.specs.Nodes as nodes

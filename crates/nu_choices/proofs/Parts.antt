@@ -8,9 +8,9 @@ use Rattle.nu_rows.specs.Rows.{Next, Leave, Raised, Return, Stopped, Undefined, 
 use Rattle.nu_rows.specs.Words.{ends_with, on_next}
 use Rattle.nu_rows.specs.Matching.{Silent}
 use Rattle.nu_calls.specs.Calls.{operate}
-use Rattle.node_tree.specs.declared.node.Argument.{Argument}
-use Rattle.node_tree.specs.declared.node.Operand.{Operand}
-use Rattle.node_tree.specs.declared.node.Operand.TheVariants as operand
+use Rattle.code_forms.specs.declared.operand.Argument.{Argument}
+use Rattle.code_forms.specs.declared.operand.Operand.{Operand}
+use Rattle.code_forms.specs.declared.operand.Operand.TheVariants as operand
 use Rattle.node_tree.specs.Blocks.{alone}
 use Rattle.node_tree.specs.Blocks as tree
 use Rattle.node_tree.specs.Nodes as nodes
