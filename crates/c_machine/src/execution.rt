@@ -42,8 +42,8 @@ pub(crate) struct Execution {
 /// What an operand holds, if it has a value.
 #[inline]
 pub(crate) fn held(registers: &Slots, operand: &Operand) -> Result<Option<Value>, AllocError>
-    ensures same { IfOk result (λ v. v ≡ meaning.held registers.now operand.now) }
-    ensures sure { takes_text (meaning.held registers.now operand.now) ≡ false → IsOk result }
+    ensures same { IfOk result (λ v. v ≡ meaning.operand_value registers.now operand.now) }
+    ensures sure { takes_text (meaning.operand_value registers.now operand.now) ≡ false → IsOk result }
 {
     match operand {
         Operand::Temp(register) => match registers.get(*register as usize) {
@@ -227,8 +227,8 @@ impl Execution {
         code: &Code,
         value: &Operand,
     ) -> Result<Option<CEnd>, AllocError>
-        ensures sure { self.old.function ≡ 0 → takes_text (meaning.held self.old.registers value.now) ≡ false → IsOk result }
-        ensures gives { IfOk result (λ end. (w : Outside) → meaning.returns table_rules code.now (state_of self.old w) (meaning.used (meaning.held self.old.registers value.now)) ≡ follows end self.new w) }
+        ensures sure { self.old.function ≡ 0 → takes_text (meaning.operand_value self.old.registers value.now) ≡ false → IsOk result }
+        ensures gives { IfOk result (λ end. (w : Outside) → meaning.returns table_rules code.now (state_of self.old w) (meaning.used (meaning.operand_value self.old.registers value.now)) ≡ follows end self.new w) }
     {
         match held(&self.registers, value)? {
             None | Some(Value::Unset) => Ok(self.undefined()),

@@ -25,7 +25,7 @@ use runtime_table::World;
 /// The bool that a register has, if it has one.
 #[inline]
 pub(crate) fn bool_in(registers: &Slots, register: u64) -> Option<bool>
-    ensures { result ≡ bool_of (meaning.held registers.now (operand.Temp register)) }
+    ensures { result ≡ bool_of (meaning.operand_value registers.now (operand.Temp register)) }
 {
     match registers.get(register as usize) {
         Some(Some(Value::Bool(truth))) => Some(*truth),
@@ -36,7 +36,7 @@ pub(crate) fn bool_in(registers: &Slots, register: u64) -> Option<bool>
 /// The bool that an operand is, if it is one.
 #[inline]
 pub(crate) fn bool_at(registers: &Slots, operand: &Operand) -> Option<bool>
-    ensures { result ≡ bool_of (meaning.held registers.now operand.now) }
+    ensures { result ≡ bool_of (meaning.operand_value registers.now operand.now) }
 {
     if let Operand::Temp(register) = operand {
         return bool_in(registers, *register);
@@ -48,7 +48,7 @@ pub(crate) fn bool_at(registers: &Slots, operand: &Operand) -> Option<bool>
 #[cold]
 #[inline(never)]
 fn written_bool(operand: &Operand) -> Option<bool>
-    ensures { result ≡ bool_of (meaning.held [] operand.now) }
+    ensures { result ≡ bool_of (meaning.operand_value [] operand.now) }
 {
     match operand {
         Operand::Temp(_) => None,
@@ -70,7 +70,7 @@ fn constant_bool(constant: &Const) -> Option<bool>
 // The integer that an operand is, if it is one.
 #[inline]
 fn int_at(registers: &Slots, operand: &Operand) -> Option<i128>
-    ensures { result ≡ int_of (meaning.held registers.now operand.now) }
+    ensures { result ≡ int_of (meaning.operand_value registers.now operand.now) }
 {
     match operand {
         Operand::Temp(register) => match registers.get(*register as usize) {
@@ -112,7 +112,7 @@ fn truth(value: &Value) -> Option<bool>
 // The truth value of what a register has, if that is no text and no object.
 #[inline]
 fn truth_in(registers: &Slots, register: u64) -> Option<bool>
-    ensures { result ≡ truth_of (meaning.held registers.now (operand.Temp register)) }
+    ensures { result ≡ truth_of (meaning.operand_value registers.now (operand.Temp register)) }
 {
     match registers.get(register as usize) {
         Some(Some(value)) => truth(value),
@@ -123,7 +123,7 @@ fn truth_in(registers: &Slots, register: u64) -> Option<bool>
 // The truth value of an operand that is no text and no object.
 #[inline]
 fn truth_at(registers: &Slots, operand: &Operand) -> Option<bool>
-    ensures { result ≡ truth_of (meaning.held registers.now operand.now) }
+    ensures { result ≡ truth_of (meaning.operand_value registers.now operand.now) }
 {
     if let Operand::Temp(register) = operand {
         return truth_in(registers, *register);
@@ -135,7 +135,7 @@ fn truth_at(registers: &Slots, operand: &Operand) -> Option<bool>
 #[cold]
 #[inline(never)]
 fn written_truth(operand: &Operand) -> Option<bool>
-    ensures { result ≡ truth_of (meaning.held [] operand.now) }
+    ensures { result ≡ truth_of (meaning.operand_value [] operand.now) }
 {
     match operand {
         Operand::Temp(_) => None,
@@ -195,7 +195,7 @@ fn plain(value: &Value) -> Option<Value>
 /// What a register or a written integer holds, if that is an integer or an object.
 #[inline]
 pub(crate) fn plain_at(registers: &Slots, operand: &Operand) -> Option<Value>
-    ensures { IfSome result (λ v. meaning.held registers.now operand.now ≡ Some v) }
+    ensures { IfSome result (λ v. meaning.operand_value registers.now operand.now ≡ Some v) }
 {
     if let Operand::Temp(register) = operand {
         return match registers.get(*register as usize) {
@@ -212,7 +212,7 @@ pub(crate) fn plain_at(registers: &Slots, operand: &Operand) -> Option<Value>
 /// What an operand holds, if it has a value and there is memory for it.
 #[inline]
 pub(crate) fn held_by(registers: &Slots, operand: &Operand) -> Option<Value>
-    ensures { IfSome result (λ v. meaning.held registers.now operand.now ≡ Some v) }
+    ensures { IfSome result (λ v. meaning.operand_value registers.now operand.now ≡ Some v) }
 {
     match held(registers, operand) {
         Ok(held) => held,

@@ -21,7 +21,7 @@ use Rattle.nu_calls.specs.Traceback.{head_text, tail_text}
 use Rattle.code_forms.specs.declared.operand.Argument.{Argument}
 use Rattle.code_forms.specs.declared.operand.Operand.{Operand}
 pub use Rattle.code_forms.specs.Reading.{both}
-use Rattle.code_forms.specs.Reading.{operand_value, argument_values}
+use Rattle.code_forms.specs.Reading.{argument_values}
 use Rattle.code_forms.specs.Reading as reading
 use Rattle.c_meaning.specs.declared.program.Stored.{Stored}
 use Rattle.c_meaning.specs.declared.program.Stored.TheVariants as stored
@@ -46,8 +46,8 @@ abbrev pub register_value : List (Option Value) → ℕ → Option Value
 register_value registers r = option_flatten (slice_get registers r)
 
 -- what an operand holds, Unset too, if it has a value
-abbrev pub held : List (Option Value) → Operand → Option Value
-held registers a = operand_value (register_value registers) a
+abbrev pub operand_value : List (Option Value) → Operand → Option Value
+operand_value registers a = reading.operand_value (register_value registers) a
 
 -- a value that is used: Unset is none
 abbrev pub used : Option Value → Option Value
@@ -295,7 +295,7 @@ module _ (rules : Rules) (c : Code) where
   receives s x other = undefined s
 
   abbrev pub stored_step : State → ℕ → Stored → Option ℕ → Stepped State
-  stored_step s to (stored.Value a) goal = stores s to (held s.running.registers a)
+  stored_step s to (stored.Value a) goal = stores s to (operand_value s.running.registers a)
   stored_step s to stored.Unset goal = next (put s to value.Unset)
   stored_step s to (stored.Parameter n) goal = stores s to (slice_get s.running.arguments n)
   stored_step s to (stored.Free n) goal = stores s to (slice_get s.running.cells n)
@@ -308,14 +308,14 @@ module _ (rules : Rules) (c : Code) where
   abbrev pub statement_step : State → Statement → Option ℕ → List (Option ℕ) → Stepped State
   statement_step s (statement.Store to what) goal cases = stored_step s to what goal
   statement_step s (statement.Goto label) goal cases = jumps s goal
-  statement_step s (statement.Branch test label) goal cases = branches s goal (held s.running.registers test)
-  statement_step s (statement.Again exception label) goal cases = again s goal (held s.running.registers exception)
-  statement_step s (statement.Give a) goal cases = returns s (used (held s.running.registers a))
+  statement_step s (statement.Branch test label) goal cases = branches s goal (operand_value s.running.registers test)
+  statement_step s (statement.Again exception label) goal cases = again s goal (operand_value s.running.registers exception)
+  statement_step s (statement.Give a) goal cases = returns s (used (operand_value s.running.registers a))
   statement_step s statement.End goal cases = body_ended s (Return value.None)
   statement_step s statement.Fail goal cases = fails s s.running.pending
   statement_step s (statement.Switch labels) goal cases = switches s cases (number_of s.running.purpose)
-  statement_step s (statement.Save slot a) goal cases = saves s slot (held s.running.registers a)
-  statement_step s (statement.Pause number a) goal cases = pauses s number (used (held s.running.registers a)) s.running.purpose s.below
+  statement_step s (statement.Save slot a) goal cases = saves s slot (operand_value s.running.registers a)
+  statement_step s (statement.Pause number a) goal cases = pauses s number (used (operand_value s.running.registers a)) s.running.purpose s.below
 
   abbrev pub placed_step : State → Option Placed → Stepped State
   placed_step s None = undefined s

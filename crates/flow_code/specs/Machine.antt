@@ -20,7 +20,8 @@ use Rattle.nu_calls.specs.Scripts.{report_function}
 use Rattle.nu_calls.specs.Traceback.{head_text, tail_text}
 use Rattle.code_forms.specs.declared.operand.Argument.{Argument}
 use Rattle.code_forms.specs.declared.operand.Operand.{Operand}
-use Rattle.code_forms.specs.Reading.{operand_value, argument_values}
+use Rattle.code_forms.specs.Reading.{argument_values}
+use Rattle.code_forms.specs.Reading as reading
 use Rattle.flow_code.specs.declared.statement.Statement.{Statement}
 use Rattle.flow_code.specs.declared.statement.Statement.TheVariants as flat
 
@@ -86,8 +87,8 @@ abbrev pub write : Frame → ℕ → Value → Frame
 write f to v = record { code = f.code; given = f.given; cells = f.cells; registers = put f.registers to v }
 
 -- what an operand holds, Unset too
-abbrev pub held : Frame → Operand → Option Value
-held f a = operand_value f.registers a
+abbrev pub operand_value : Frame → Operand → Option Value
+operand_value f a = reading.operand_value f.registers a
 
 -- the arguments of an operation, if all have a value
 abbrev pub values : Frame → List Argument → Option (List Value)
@@ -237,22 +238,22 @@ module _ {L : Type 0} (m : Functions L) where
 
   -- a statement, with the place behind it
   abbrev pub acts : State L → L → Statement → Stepped (State L)
-  acts s next (flat.Store to a) = having (held s.frame a) (undefined s.out) (λ v. on s next (write s.frame to v))
+  acts s next (flat.Store to a) = having (operand_value s.frame a) (undefined s.out) (λ v. on s next (write s.frame to v))
   acts s next (flat.Unset to) = on s next (write s.frame to value.Unset)
   acts s next (flat.Parameter to i) = having (slice_get s.frame.given i) (undefined s.out) (λ v. on s next (write s.frame to v))
   acts s next (flat.Free to i) = having (slice_get s.frame.cells i) (undefined s.out) (λ v. on s next (write s.frame to v))
   acts s next (flat.Do to line o args fail) =
       having (values s.frame args) (undefined s.out) (λ vs. operates (waits s s.pending to line fail next) s.stack s.around s.out o vs)
   acts s next (flat.Goto l) = on s (m.label s.code l) s.frame
-  acts s next (flat.Branch test l) = using (held s.frame test) (undefined s.out) (branches s next l)
+  acts s next (flat.Branch test l) = using (operand_value s.frame test) (undefined s.out) (branches s next l)
   acts s next (flat.Caught to) =
       having s.pending (undefined s.out) (λ e. More (at s.code next (write s.frame to (value.Obj e)) None s.stack s.around s.out))
-  acts s next (flat.Again a l) = using (held s.frame a) (undefined s.out) (again s l)
-  acts s next (flat.Give a) = using (held s.frame a) (undefined s.out) (λ v. body_ended s.frame.code s.stack s.around s.out (Return v))
+  acts s next (flat.Again a l) = using (operand_value s.frame a) (undefined s.out) (again s l)
+  acts s next (flat.Give a) = using (operand_value s.frame a) (undefined s.out) (λ v. body_ended s.frame.code s.stack s.around s.out (Return v))
   acts s next flat.End = body_ended s.frame.code s.stack s.around s.out (Next value.None)
   acts s next flat.Fail = having s.pending (undefined s.out) (λ e. body_ended s.frame.code s.stack s.around s.out (Raised e))
   acts s next (flat.Yield to line a fail) =
-      using (held s.frame a) (undefined s.out) (λ v. paused (waits s None to line fail next) v s.stack s.around s.out)
+      using (operand_value s.frame a) (undefined s.out) (λ v. paused (waits s None to line fail next) v s.stack s.around s.out)
 
   abbrev pub acts_at : State L → Option (Statement × L) → Stepped (State L)
   acts_at s None = undefined s.out

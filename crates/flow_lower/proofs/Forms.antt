@@ -97,9 +97,9 @@ module _ (q : Code) (stands : Stands q) (kc : ℕ) (stack : Stack) where
   -- an operand is read, and an act follows
   reading_mute : (x : Operand) (f : Value → NodeState → Effect NodeState) → Mute (row_of q) (node.reading x (λ v. Act (f v)))
   reading_mute x f =
-      then_mute (row_of q) _ _ (act_mute (row_of q) (λ s. record { out = []; state = s; end = node.used (node.held s.frame x) })) refl (next_mute (row_of q) _ (λ v. act_mute (row_of q) (f v)))
+      then_mute (row_of q) _ _ (act_mute (row_of q) (λ s. record { out = []; state = s; end = node.used (node.operand_value s.frame x) })) refl (next_mute (row_of q) _ (λ v. act_mute (row_of q) (f v)))
 
-  reading_runs : (n : ℕ) (x : Operand) (f : Value → NodeState → Effect NodeState) (entry : List Line) (a : Lay) → ((t : NodeState) (base : List ℕ) (v : Value) → ((other : Stepped Machine) (go : Value → Stepped Machine) → machine.using (machine.held (flat_frame t.frame) x) other go ≡ go v) → EndedAt q kc stack a (go_at q kc stack entry t base) (f v t).state (f v t).end (base ++ (f v t).out)) → Runs q kc stack n (node.reading x (λ v. Act (f v))) entry a (read_points (λ v. none))
+  reading_runs : (n : ℕ) (x : Operand) (f : Value → NodeState → Effect NodeState) (entry : List Line) (a : Lay) → ((t : NodeState) (base : List ℕ) (v : Value) → ((other : Stepped Machine) (go : Value → Stepped Machine) → machine.using (machine.operand_value (flat_frame t.frame) x) other go ≡ go v) → EndedAt q kc stack a (go_at q kc stack entry t base) (f v t).state (f v t).end (base ++ (f v t).out)) → Runs q kc stack n (node.reading x (λ v. Act (f v))) entry a (read_points (λ v. none))
   reading_runs n x f entry a h = record {
     begins = λ t base. reading_begins q kc stack n x a (λ v. none) (λ v. Act (f v)) base _ t (λ v u. h t base v u);
     goes_on = λ p how t base. mute_ran q kc stack n a (read_points (λ v. none)) base _ _ (reading_mute x f) p how t;
@@ -119,9 +119,9 @@ module _ (q : Code) (stands : Stands q) (kc : ℕ) (stack : Stack) where
   given_ran mid a t base s (Some v) e =
       λ d. subst (λ z. Reaches q s (machine.body_ended (mm q) t.frame.code stack (fw q t.around) z (Return v))) (sym (append-nil base)) (reaches_step q s _ (e ∙ uses v _ _ d))
 
-  return_runs : (n : ℕ) (x : Operand) (mid : List Line) (a : Lay) → Runs q kc stack n (Act (λ s. record { out = []; state = s; end = node.given (node.held s.frame x) })) (Do (flat.Give x) ∷ mid) (lay a.fail a.exits mid) none
+  return_runs : (n : ℕ) (x : Operand) (mid : List Line) (a : Lay) → Runs q kc stack n (Act (λ s. record { out = []; state = s; end = node.given (node.operand_value s.frame x) })) (Do (flat.Give x) ∷ mid) (lay a.fail a.exits mid) none
   return_runs n x mid a =
-      act_runs n _ _ mid a (λ t base. given_ran mid a t base _ (node.held t.frame x) refl)
+      act_runs n _ _ mid a (λ t base. given_ran mid a t base _ (node.operand_value t.frame x) refl)
 
   -- an exception is raised as it stands
   pending_ran : (a : Lay) (ls mid : List Line) (t : NodeState) (base : List ℕ) (s : Machine) (e : ℕ) (x : Option Object) → mstep q s ≡ machine.pending_exception (mm q) (go_at q kc stack ls t base) a.fail e x → EndedAt q kc stack (lay a.fail a.exits mid) s t (node.exception_end e x) (base ++ [])

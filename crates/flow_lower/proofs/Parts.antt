@@ -78,9 +78,9 @@ module _ (q : Code) (kc : ℕ) (stack : Stack) where
   reading_ran n a pts k base s t (Some (value.Str text)) h = ran_step q kc stack n a (read_points pts) base _ s _ (h (value.Str text) (λ o go. refl))
   reading_ran n a pts k base s t (Some (value.Obj m)) h = ran_step q kc stack n a (read_points pts) base _ s _ (h (value.Obj m) (λ o go. refl))
 
-  pub reading_begins : (n : ℕ) (x : Operand) (a : Lay) (pts : Value → Points) (k : Value → node.R) (base : List ℕ) (s : Machine) (t : NodeState) → ((v : Value) → ((other : Stepped Machine) (go : Value → Stepped Machine) → machine.using (machine.held (flat_frame t.frame) x) other go ≡ go v) → Ran q kc stack n a (pts v) base s (does (row_of q) (k v) Begin t n)) → Ran q kc stack n a (read_points pts) base s (does (row_of q) (node.reading x k) Begin t n)
+  pub reading_begins : (n : ℕ) (x : Operand) (a : Lay) (pts : Value → Points) (k : Value → node.R) (base : List ℕ) (s : Machine) (t : NodeState) → ((v : Value) → ((other : Stepped Machine) (go : Value → Stepped Machine) → machine.using (machine.operand_value (flat_frame t.frame) x) other go ≡ go v) → Ran q kc stack n a (pts v) base s (does (row_of q) (k v) Begin t n)) → Ran q kc stack n a (read_points pts) base s (does (row_of q) (node.reading x k) Begin t n)
   reading_begins n x a pts k base s t h =
-      reading_ran n a pts k base s t (node.held t.frame x) h
+      reading_ran n a pts k base s t (node.operand_value t.frame x) h
 
   pub reading_back : (n : ℕ) (x : Operand) (k : Value → node.R) (a : Lay) (pts : Value → Points) → ((v : Value) (p : List Step) (how : How) (t : NodeState) (base : List ℕ) → Ran q kc stack n a (pts v) base (resume_at q kc stack (pts v p) how t base) (does (row_of q) (k v) (Back p how) t n)) → (p : List Step) (how : How) (t : NodeState) (base : List ℕ) → Ran q kc stack n a (read_points pts) base (resume_at q kc stack (read_points pts p) how t base) (does (row_of q) (node.reading x k) (Back p how) t n)
   reading_back n x k a pts hg [] how t base = tt

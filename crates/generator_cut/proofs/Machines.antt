@@ -849,7 +849,7 @@ module _ (rules : Rules) (script : FlatScript) (plan : FlatFunction → Plan) (L
   on_used out F G h (Some (value.Str text)) w fine = subst (λ w. Match (F (value.Str text)) (G (c.used w))) (sym fine) (h (value.Str text))
   on_used out F G h (Some (value.Obj n)) w fine = subst (λ w. Match (F (value.Obj n)) (G (c.used w))) (sym fine) (h (value.Obj n))
 
-  held_fine : (a : Spot) (o : Operand) → AllByRecursion (Live a.function a.left) (operand_reads o) → Fine (machine.held (frame_of a) o) (c.held a.registers o)
+  held_fine : (a : Spot) (o : Operand) → AllByRecursion (Live a.function a.left) (operand_reads o) → Fine (machine.operand_value (frame_of a) o) (c.operand_value a.registers o)
   held_fine a (operand.Temp r) all = a.agrees.live r all.0
   held_fine a (operand.Const c) all = refl
 
@@ -918,7 +918,7 @@ module _ (rules : Rules) (script : FlatScript) (plan : FlatFunction → Plan) (L
   nothing_said out (Some (value.Str text)) y = λ d. absurd d
   nothing_said out (Some (value.Obj n)) y = λ d. absurd d
 
-  yields_match : (a : Spot) (n : ℕ) (chain : Chain) (world : Scene) (ks : List (Option Dozing)) (u : Option Uncaught) (out : List ℕ) (to at : ℕ) (v : Operand) (fail : ℕ) (next : List Line) → first a.left ≡ Some (flat.Yield to at v fail, next) → StandsAt a n → Sits chain a u → Match (machine.using (machine.held (frame_of a) v) (machine.undefined out) (λ w. machine.paused m (waiting_at (idle a) to at fail next) w (stack_of chain) (flat_around ks world) out)) (c.step rules code (c_state a n chain world ks u out))
+  yields_match : (a : Spot) (n : ℕ) (chain : Chain) (world : Scene) (ks : List (Option Dozing)) (u : Option Uncaught) (out : List ℕ) (to at : ℕ) (v : Operand) (fail : ℕ) (next : List Line) → first a.left ≡ Some (flat.Yield to at v fail, next) → StandsAt a n → Sits chain a u → Match (machine.using (machine.operand_value (frame_of a) v) (machine.undefined out) (λ w. machine.paused m (waiting_at (idle a) to at fail next) w (stack_of chain) (flat_around ks world) out)) (c.step rules code (c_state a n chain world ks u out))
   yields_match a n (Bottommost b) world ks u out to at v fail next e stands sits = nothing_said out _ _
   yields_match a n (Calling w after below) world ks u out to at v fail next e stands sits = nothing_said out _ _
   yields_match a n (Resuming w g number closing what resumed below) world ks u out to at v fail next e stands sits =
@@ -932,10 +932,10 @@ module _ (rules : Rules) (script : FlatScript) (plan : FlatFunction → Plan) (L
       let d : Dozing = record { spot = stocked a rs; to = to; line = at; value = v; fail = fail; next = next; first = e; saved = stored_holds 0 rs a.registers a.slots room; generator = sits.0 } in
       let t = c_state (stocked a rs) run.place chain world ks u out in
       match_before _ _ t run.comes
-      (subst (Match (machine.using (machine.held (frame_of a) v) (machine.undefined out) (λ w. machine.paused m (flat_keeps d) w (stack_of chain) (flat_around ks world) out))) (sym (step_is t f a.is _ _ run.stands))
+      (subst (Match (machine.using (machine.operand_value (frame_of a) v) (machine.undefined out) (λ w. machine.paused m (flat_keeps d) w (stack_of chain) (flat_around ks world) out))) (sym (step_is t f a.is _ _ run.stands))
       (on_used out (λ w. machine.paused m (flat_keeps d) w (stack_of chain) (flat_around ks world) out) (λ o. c.pauses rules code t (a.pause + 1) o (purpose_of chain) (below_of chain))
       (λ w'. paused_match d run.place w g number closing what resumed below world ks u out w' sits.1)
-      (machine.held (frame_of a) v) (c.held a.registers v) (held_fine a v ((works_at a).reads a.left x next a.part e))))
+      (machine.operand_value (frame_of a) v) (c.operand_value a.registers v) (held_fine a v ((works_at a).reads a.left x next a.part e))))
 
   -- STATEMENTS
 
@@ -1026,7 +1026,7 @@ module _ (rules : Rules) (script : FlatScript) (plan : FlatFunction → Plan) (L
     acts_match (flat.Store to a) next e =
         let x = flat.Store to a in
         as_one x next _ _ e refl
-        (on_fine j.out _ (c.stores (other j) to) (λ v. puts_match x next _ e tt refl to (small_at j.spot x next e).0 (λ r ne. (ne, tt)) v j.spot.pending) (machine.held (frame_of j.spot) a) (c.held j.spot.registers a) (held_fine j.spot a (reads_live x next e)))
+        (on_fine j.out _ (c.stores (other j) to) (λ v. puts_match x next _ e tt refl to (small_at j.spot x next e).0 (λ r ne. (ne, tt)) v j.spot.pending) (machine.operand_value (frame_of j.spot) a) (c.operand_value j.spot.registers a) (held_fine j.spot a (reads_live x next e)))
     acts_match (flat.Unset to) next e =
         let x = flat.Unset to in
         as_one x next _ _ e refl (puts_match x next _ e tt refl to (small_at j.spot x next e).0 (λ r ne. (ne, tt)) value.Unset j.spot.pending)
@@ -1057,17 +1057,17 @@ module _ (rules : Rules) (script : FlatScript) (plan : FlatFunction → Plan) (L
         as_one x next _ _ e refl
         (on_using j.out _ (c.branches (other j) (goal_in 0 (body f) l))
         (branches_match next l (onward x next e (next_stands x next _ e refl) j.spot.registers j.spot.frame j.spot.pending (stayed x next e tt (λ r. tt))) (jumps_match l j.spot.pending (jump_stayed x next e l refl (λ r. tt))))
-        (machine.held (frame_of j.spot) test) (c.held j.spot.registers test) (held_fine j.spot test (reads_live x next e)))
+        (machine.operand_value (frame_of j.spot) test) (c.operand_value j.spot.registers test) (held_fine j.spot test (reads_live x next e)))
     acts_match (flat.Caught to) next e =
         let x = flat.Caught to in
         as_one x next _ _ e refl (takes_match next to (λ n. puts_match x next _ e tt refl to (small_at j.spot x next e).0 (λ r ne. (ne, tt)) (value.Obj n) None) j.spot.pending)
     acts_match (flat.Again a l) next e =
         let x = flat.Again a l in
         as_one x next _ _ e refl
-        (on_using j.out _ (c.again (other j) (goal_in 0 (body f) l)) (again_match l (jump_stayed x next e l refl (λ r. tt))) (machine.held (frame_of j.spot) a) (c.held j.spot.registers a) (held_fine j.spot a (reads_live x next e)))
+        (on_using j.out _ (c.again (other j) (goal_in 0 (body f) l)) (again_match l (jump_stayed x next e l refl (λ r. tt))) (machine.operand_value (frame_of j.spot) a) (c.operand_value j.spot.registers a) (held_fine j.spot a (reads_live x next e)))
     acts_match (flat.Give a) next e =
         as_one (flat.Give a) next _ _ e refl
-        (on_used j.out _ (c.returns rules code (other j)) (λ v. ended_match j.spot j.place j.chain j.world j.kept j.uncaught j.out (Return v) j.sits) (machine.held (frame_of j.spot) a) (c.held j.spot.registers a) (held_fine j.spot a (reads_live (flat.Give a) next e)))
+        (on_used j.out _ (c.returns rules code (other j)) (λ v. ended_match j.spot j.place j.chain j.world j.kept j.uncaught j.out (Return v) j.sits) (machine.operand_value (frame_of j.spot) a) (c.operand_value j.spot.registers a) (held_fine j.spot a (reads_live (flat.Give a) next e)))
     acts_match flat.End next e =
         as_one flat.End next _ _ e refl
         (subst (Match (machine.acts m (one j) next flat.End)) (none_given j.spot j.place j.chain j.world j.kept j.uncaught j.out)

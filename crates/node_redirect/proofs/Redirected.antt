@@ -227,7 +227,7 @@ module _ (l : nodes.L) (blocks : ℕ → tree.Block) (k : ℕ) where
     used_still (Some (value.Obj i)) = tt
 
     reading_same : (a : Operand) (K D : Value → nodes.R) → ((v : Value) → Same d (K v) (D v)) → Same d (nodes.reading a K) (nodes.reading a D)
-    reading_same a K D next = next_same _ _ K D (act_same _ (λ t. used_still (nodes.held t.frame a))) next
+    reading_same a K D next = next_same _ _ K D (act_same _ (λ t. used_still (nodes.operand_value t.frame a))) next
 
     choose_same : (v : Value) (r q r' q' : nodes.R) → Same d r r' → Same d q q' → Same d (choose v r q) (choose v r' q')
     choose_same (value.Bool true) r q r' q' x y = x

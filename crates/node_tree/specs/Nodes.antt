@@ -14,7 +14,7 @@ use Rattle.code_forms.specs.declared.operand.Argument.{Argument}
 use Rattle.code_forms.specs.declared.operand.Argument.TheVariants as argument
 use Rattle.code_forms.specs.declared.operand.Operand.{Operand}
 pub use Rattle.code_forms.specs.Reading.{both}
-use Rattle.code_forms.specs.Reading.{operand_value, argument_values}
+use Rattle.code_forms.specs.Reading.{argument_values}
 use Rattle.code_forms.specs.Reading as reading
 use Rattle.node_tree.specs.Blocks as tree
 
@@ -50,8 +50,8 @@ abbrev pub write_row : ℕ → Value → R
 write_row to v = Act (λ s. quiet (writes s to v))
 
 -- what an operand holds, Unset too
-abbrev pub held : Frame → Operand → Option Value
-held f a = operand_value f.temps a
+abbrev pub operand_value : Frame → Operand → Option Value
+operand_value f a = reading.operand_value f.temps a
 
 -- a value that is used; nothing is said of Unset, and of what has no value
 abbrev pub used : Option Value → End
@@ -66,7 +66,7 @@ given (Some v) = Return v
 
 -- an operand is read
 abbrev pub reading : Operand → (Value → R) → R
-reading a k = Then (Act (λ s. record { out = []; state = s; end = used (held s.frame a) })) (on_next k)
+reading a k = Then (Act (λ s. record { out = []; state = s; end = used (operand_value s.frame a) })) (on_next k)
 
 -- a value goes to a temporary, which becomes Unset where an exception is raised
 abbrev pub stored : ℕ → End → R
@@ -137,7 +137,7 @@ abbrev mutual
   form_row l (tree.Loop body) = Loop (block_row l body) (OfLoop body)
   form_row l (tree.Leave levels) = ends_with (leave_end levels)
   form_row l (tree.Catch to body handler) = Then (block_row l body) (on_raised (handled to (block_row l handler)))
-  form_row l (tree.Return a) = Act (λ s. record { out = []; state = s; end = given (held s.frame a) })
+  form_row l (tree.Return a) = Act (λ s. record { out = []; state = s; end = given (operand_value s.frame a) })
   form_row l (tree.Raise a) = reading a raise_row
   form_row l (tree.Unset to) = write_row to value.Unset
 

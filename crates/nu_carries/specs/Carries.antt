@@ -136,7 +136,7 @@ pub record CarriesValue (h : Homes) (low high : ℕ) (r : python.L → python.R)
 
 -- what an operand holds is known
 abbrev pub Knows : Facts → Operand → Value → Type 0
-Knows fs o v = (c : Value) (g : nodes.Frame) → Fits fs c g → nodes.held g o ≡ Some v
+Knows fs o v = (c : Value) (g : nodes.Frame) → Fits fs c g → nodes.operand_value g o ≡ Some v
 
 -- the exception of the `except` clause around a construct, and the temporary that holds it
 abbrev pub Handles : Facts → Option ℕ → Option ℕ → Type 0

@@ -45,7 +45,7 @@ pub off_part : (h : Homes) (low high d : ℕ) (x : syntax.Expression) (p : Carri
 off_part h low high d x p v fs c le off = let l = c.within.1 in within_off c.from c.to d p.value v fs c.carries.within (omega arith) off
 
 -- what an operand holds goes to a temporary, silently
-moved_silent : (z : Setting) (to : ℕ) (o : Operand) (v : Value) (t : T) → nodes.held t.frame o ≡ Some v → (w : Value) × (w ≡ v) × Silent (does (columns z) (nodes.block_row (target z) (moved to o)) Begin t) (Next value.None) (nodes.writes t to w)
+moved_silent : (z : Setting) (to : ℕ) (o : Operand) (v : Value) (t : T) → nodes.operand_value t.frame o ≡ Some v → (w : Value) × (w ≡ v) × Silent (does (columns z) (nodes.block_row (target z) (moved to o)) Begin t) (Next value.None) (nodes.writes t to w)
 moved_silent z to (operand.Temp from) v t e = (
   v,
   refl,

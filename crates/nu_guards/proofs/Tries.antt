@@ -165,7 +165,7 @@ clause_carried h low t cl ch bl bh rl rh temp line class name body rest cb bb rb
           let Q : AllEnds = EndsAs z h 2 (λ v. fs) fs in
           value_then z h fs Q (passing z h 2 fs) fs cl ch class cb o _ _ (λ c g y. y) cc (outside_less h low (t + 1) cl ch fs wc.0 (omega arith) out)
           (λ v. do_then z h fs Q (passing z h 2 fs) (Holds o v ∷ fs) line t op.Match (value.Obj x ∷ v ∷ []) (of_temp temp ∷ argument.Value o ∷ []) _ _ (λ c g y. y.1) (omega arith) (within_off cl ch t o v fs cc.within wc.1 (outside_off h low (t + 1) t fs (omega arith) (omega arith) out))
-          (λ c g y. ap (λ u. nodes.both u (nodes.both (nodes.held g o) (Some []))) (known c g y.1) ∙ ap (λ u. nodes.both (Some (value.Obj x)) (nodes.both u (Some []))) y.0)
+          (λ c g y. ap (λ u. nodes.both u (nodes.both (nodes.operand_value g o) (Some []))) (known c g y.1) ∙ ap (λ u. nodes.both (Some (value.Obj x)) (nodes.both u (Some []))) y.0)
           (λ b.
           let gs : Facts = Holds (operand.Temp t) b ∷ Holds o v ∷ fs in
           one_by z h 2 _ Q _ _ (unvalued z h 2 (λ v. fs) fs)

@@ -50,7 +50,7 @@ augmented h low mid from to high line at caught o name x a b c av bv apart cb ca
           (λ w. then_carried z h 2 (fo v w) k (fb v w) _ _ _ _ (λ u. forget (Holds (operand.Temp to) u) (fb v w))
           (operate_carried z h 2 (fb v w) line o (v ∷ w ∷ []) to (argument.Value av ∷ argument.Value bv ∷ []) above
           (within_off low mid to bv w (fa v) cb.within before (within_off from to to av v fs ca.within (omega arith) (outside_off h low high to fs (omega arith) (omega arith) off)))
-          (λ c g y. ap (λ q. nodes.both q (nodes.both (nodes.held g bv) (Some []))) y.1.0 ∙ ap (λ q. nodes.both (Some v) (nodes.both q (Some []))) y.0))
+          (λ c g y. ap (λ q. nodes.both q (nodes.both (nodes.operand_value g bv) (Some []))) y.1.0 ∙ ap (λ q. nodes.both (Some v) (nodes.both q (Some []))) y.0))
           (λ u. more_leaves z h 0 2 k (fo v w u) _ _ (omega arith)
           (weaken z h 0 (λ r. fo v w u) k (fo v w u) _ _ (λ r c g y. y.1.1.1)
           (cs.carries z (fo v w u) u (
