@@ -7,8 +7,8 @@ use Rattle.nu_rows.specs.Words.{ends_with, on_next, on_raised, choose}
 use Rattle.nu_run.proofs.Runs.{prefix_trans}
 use Rattle.nu_rows.specs.Sim.{printed, Places, Ends, Below, other_places, other_ends}
 use Rattle.nu_rows.proofs.Grow.{turned_printed}
-use Rattle.node_tree.specs.declared.node.Operand.{Operand}
-use Rattle.node_tree.specs.declared.node.Operand.TheVariants as operand
+use Rattle.code_forms.specs.declared.operand.Operand.{Operand}
+use Rattle.code_forms.specs.declared.operand.Operand.TheVariants as operand
 use Rattle.node_tree.specs.Blocks as tree
 use Rattle.node_tree.specs.Nodes as nodes
 use Rattle.py_meaning.specs.Frames as python
@@ -77,7 +77,7 @@ module _ (z : Setting) (h : Homes) where
   undefined_done Pre Q D u tabs e s (Stopped v) t x = let y : Stopped v ≡ Undefined = x.1 in cc
 
   -- a branch on an operand that is known
-  pub branch_by : (Pre : States) (Q : AllEnds) (a : Operand) (v : Value) (r₁ r₂ : python.R) (y n : tree.Block) → ((tabs : Tables) (s : S) (t : T) → Pre tabs s t → nodes.held t.frame a ≡ Some v) → ((tabs : Tables) (s : S) (t : T) → Pre tabs s t → Q tabs Undefined s Undefined t) → CarriedBy z h Pre Q r₁ (nodes.block_row (target z) y) → CarriedBy z h Pre Q r₂ (nodes.block_row (target z) n) → CarriedBy z h Pre Q (choose v r₁ r₂) (nodes.form_row (target z) (tree.If a y n))
+  pub branch_by : (Pre : States) (Q : AllEnds) (a : Operand) (v : Value) (r₁ r₂ : python.R) (y n : tree.Block) → ((tabs : Tables) (s : S) (t : T) → Pre tabs s t → nodes.operand_value t.frame a ≡ Some v) → ((tabs : Tables) (s : S) (t : T) → Pre tabs s t → Q tabs Undefined s Undefined t) → CarriedBy z h Pre Q r₁ (nodes.block_row (target z) y) → CarriedBy z h Pre Q r₂ (nodes.block_row (target z) n) → CarriedBy z h Pre Q (choose v r₁ r₂) (nodes.form_row (target z) (tree.If a y n))
   branch_by Pre Q a (value.Bool true) r₁ r₂ y n known u hy hn = read_by z h 0 Pre Q a (value.Bool true) r₁ (λ w. choose w (nodes.block_row (target z) y) (nodes.block_row (target z) n)) refl known hy
   branch_by Pre Q a (value.Bool false) r₁ r₂ y n known u hy hn = read_by z h 0 Pre Q a (value.Bool false) r₂ (λ w. choose w (nodes.block_row (target z) y) (nodes.block_row (target z) n)) refl known hn
   branch_by Pre Q a value.None r₁ r₂ y n known u hy hn = read_by z h 0 Pre Q a value.None _ (λ w. choose w (nodes.block_row (target z) y) (nodes.block_row (target z) n)) refl known (act_by z h Pre Q _ _ (λ tabs s t p. (refl, u tabs s t p)))
@@ -89,11 +89,11 @@ module _ (z : Setting) (h : Homes) where
       (act_by z h Pre _ _ _ (λ tabs s t p. (refl, (refl, ap nodes.used (known tabs s t p), p))))
 
   -- a branch that the nodes alone take, on a truth that is known
-  pub flagged_by : (Pre : States) (Q : AllEnds) (a : Operand) (b : Bool) (r : python.R) (y n : tree.Block) → ((tabs : Tables) (s : S) (t : T) → Pre tabs s t → nodes.held t.frame a ≡ Some (value.Bool b)) → CarriedBy z h Pre Q r (choose (value.Bool b) (nodes.block_row (target z) y) (nodes.block_row (target z) n)) → CarriedBy z h Pre Q r (nodes.form_row (target z) (tree.If a y n))
+  pub flagged_by : (Pre : States) (Q : AllEnds) (a : Operand) (b : Bool) (r : python.R) (y n : tree.Block) → ((tabs : Tables) (s : S) (t : T) → Pre tabs s t → nodes.operand_value t.frame a ≡ Some (value.Bool b)) → CarriedBy z h Pre Q r (choose (value.Bool b) (nodes.block_row (target z) y) (nodes.block_row (target z) n)) → CarriedBy z h Pre Q r (nodes.form_row (target z) (tree.If a y n))
   flagged_by Pre Q a b r y n known x = read_by z h 0 Pre Q a (value.Bool b) r (λ w. choose w (nodes.block_row (target z) y) (nodes.block_row (target z) n)) refl known x
 
   -- the value of an operand that is known is returned
-  pub return_by : (Pre : States) (Q : AllEnds) (a : Operand) (v : Value) → ((tabs : Tables) (s : S) (t : T) → Pre tabs s t → nodes.held t.frame a ≡ Some v) → ((tabs : Tables) (s : S) (t : T) → Pre tabs s t → Q tabs (Return v) s (Return v) t) → CarriedBy z h Pre Q (ends_with (Return v)) (nodes.form_row (target z) (tree.Return a))
+  pub return_by : (Pre : States) (Q : AllEnds) (a : Operand) (v : Value) → ((tabs : Tables) (s : S) (t : T) → Pre tabs s t → nodes.operand_value t.frame a ≡ Some v) → ((tabs : Tables) (s : S) (t : T) → Pre tabs s t → Q tabs (Return v) s (Return v) t) → CarriedBy z h Pre Q (ends_with (Return v)) (nodes.form_row (target z) (tree.Return a))
   return_by Pre Q a v known done = act_by z h Pre Q _ _ (λ tabs s t x. (refl, subst (λ o. Q tabs (Return v) s (nodes.given o) t) (sym (known tabs s t x)) (done tabs s t x)))
 
   -- Statements of the nodes alone

@@ -12,8 +12,8 @@ use Rattle.nu_rows.proofs.Congruence.{sub_both}
 use Rattle.nu_calls.specs.Surroundings.{Surroundings, Scene, scene, kept_at, keep_at, with_kept}
 use Rattle.nu_calls.specs.Ends.{Result, Gives, Raises, Stops, Unsaid, Ending, Begun, Over, Calls, Starts, Wakes, Began, begun_by, generator_paused, generator_ended, call_ended, inside, outside, at_line}
 use Rattle.nu_calls.specs.Calls.{Pause, state_of, in_scene, end_of, effect_of, unsaid, given_back, back_in, leave_call, leave_generator, enters, calls, starts, goes_on, entry, began, operates, enlisted, on_line, operate, yields}
-use Rattle.node_tree.specs.declared.node.Argument.{Argument}
-use Rattle.node_tree.specs.declared.node.Operand.TheVariants as operand
+use Rattle.code_forms.specs.declared.operand.Argument.{Argument}
+use Rattle.code_forms.specs.declared.operand.Operand.TheVariants as operand
 use Rattle.node_tree.specs.Nodes as nodes
 use Rattle.py_meaning.specs.Frames as python
 use Rattle.nu_carries.specs.Frames.{Homes, begun, behind, Holds, Facts, Fits, FramesAs}

@@ -4,7 +4,7 @@ use Rattle.nu_value.specs.declared.value.Value.{Value}
 use Rattle.nu_value.specs.declared.value.Value.TheVariants as value
 use Rattle.nu_rows.specs.Rows.{End, Next, Leave, Raised, Return, Stopped, Undefined}
 use Rattle.nu_rows.specs.Words.{ends_with, on_next, then_value, choose}
-use Rattle.node_tree.specs.declared.node.Operand.{Operand}
+use Rattle.code_forms.specs.declared.operand.Operand.{Operand}
 use Rattle.node_tree.specs.Blocks.{Block, Stop, append}
 use Rattle.node_tree.specs.Nodes as nodes
 use Rattle.py_meaning.specs.Frames as python
@@ -147,7 +147,7 @@ module _ (z : Setting) (h : Homes) (n : ℕ) where
   gives_carried k fs v f = act_by z h _ (EndsAs z h n k fs) _ _ (λ tabs s t x. (refl, refit z h tabs fs (k v) s t (f s.frame.carried t.frame) x))
 
   -- an operand that is known, and used, is read
-  pub read_by : (Pre : States) (Q : AllEnds) (a : Operand) (v : Value) (r : python.R) (D : Value → nodes.R) → python.used v ≡ Next v → ((tabs : Tables) (s : S) (t : T) → Pre tabs s t → nodes.held t.frame a ≡ Some v) → CarriedBy z h Pre Q r (D v) → CarriedBy z h Pre Q r (nodes.reading a D)
+  pub read_by : (Pre : States) (Q : AllEnds) (a : Operand) (v : Value) (r : python.R) (D : Value → nodes.R) → python.used v ≡ Next v → ((tabs : Tables) (s : S) (t : T) → Pre tabs s t → nodes.operand_value t.frame a ≡ Some v) → CarriedBy z h Pre Q r (D v) → CarriedBy z h Pre Q r (nodes.reading a D)
   read_by Pre Q a v r D used known x =
       right_by z h Pre (λ w tabs s t. (w ≡ v) × Pre tabs s t) Q r _ D
       (λ tabs s t y. (refl, subst (λ e. Midway z h (λ w tabs s t. (w ≡ v) × Pre tabs s t) tabs e s t) (sym (ap nodes.used (known tabs s t y) ∙ used_same v ∙ used)) (refl, y)))
@@ -172,7 +172,7 @@ module _ (z : Setting) (h : Homes) (n : ℕ) where
   both_undefined Pre Q K D u (Stopped v) e' = none_by z h _ Q _ _ (λ tabs s t x. let e : Stopped v ≡ Undefined = x.0 in cc)
 
   -- the source takes a value for one, where the nodes read the operand that holds it
-  pub uses_by : (Pre : States) (Q : AllEnds) (a : Operand) (v : Value) (K : Value → python.R) (D : Value → nodes.R) → ((tabs : Tables) (s : S) (t : T) → Pre tabs s t → nodes.held t.frame a ≡ Some v) → ((tabs : Tables) (s : S) (t : T) → Pre tabs s t → Q tabs Undefined s Undefined t) → (python.used v ≡ Next v → CarriedBy z h Pre Q (K v) (D v)) → CarriedBy z h Pre Q (python.uses v K) (nodes.reading a D)
+  pub uses_by : (Pre : States) (Q : AllEnds) (a : Operand) (v : Value) (K : Value → python.R) (D : Value → nodes.R) → ((tabs : Tables) (s : S) (t : T) → Pre tabs s t → nodes.operand_value t.frame a ≡ Some v) → ((tabs : Tables) (s : S) (t : T) → Pre tabs s t → Q tabs Undefined s Undefined t) → (python.used v ≡ Next v → CarriedBy z h Pre Q (K v) (D v)) → CarriedBy z h Pre Q (python.uses v K) (nodes.reading a D)
   uses_by Pre Q a v K D known u next = ⊎_elim
       (λ (used : python.used v ≡ Next v).
       left_by z h Pre (λ w tabs s t. (w ≡ v) × Pre tabs s t) Q _ K _

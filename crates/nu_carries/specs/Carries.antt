@@ -8,8 +8,8 @@ use Rattle.nu_rows.specs.Sim.{Places, Ends, Sim}
 use Rattle.op_forms.specs.Rules.{Rules}
 use Rattle.nu_calls.specs.Surroundings.{Surroundings, scene, kept_at}
 use Rattle.nu_calls.specs.Calls.{State, Pause}
-use Rattle.node_tree.specs.declared.node.Operand.{Operand}
-use Rattle.node_tree.specs.declared.node.Operand.TheVariants as operand
+use Rattle.code_forms.specs.declared.operand.Operand.{Operand}
+use Rattle.code_forms.specs.declared.operand.Operand.TheVariants as operand
 use Rattle.node_tree.specs.declared.script.NodeScript.{NodeScript}
 use Rattle.node_tree.specs.Blocks.{Block, append}
 use Rattle.node_tree.specs.Nodes as nodes
@@ -136,7 +136,7 @@ pub record CarriesValue (h : Homes) (low high : ℕ) (r : python.L → python.R)
 
 -- what an operand holds is known
 abbrev pub Knows : Facts → Operand → Value → Type 0
-Knows fs o v = (c : Value) (g : nodes.Frame) → Fits fs c g → nodes.held g o ≡ Some v
+Knows fs o v = (c : Value) (g : nodes.Frame) → Fits fs c g → nodes.operand_value g o ≡ Some v
 
 -- the exception of the `except` clause around a construct, and the temporary that holds it
 abbrev pub Handles : Facts → Option ℕ → Option ℕ → Type 0

@@ -2,8 +2,8 @@
 use Rattle.std.specs.Prelude.{◌≡◌, ◌⊎◌, ℕ, ◌+◌, ◌<◌, ◌≤◌, List, [], ◌∷◌, length, Some, nat_lt, if◌then◌else◌}
 use Rattle.nu_value.specs.declared.value.Value.{Value}
 use Rattle.nu_value.specs.declared.value.Value.TheVariants as value
-use Rattle.node_tree.specs.declared.node.Operand.{Operand}
-use Rattle.node_tree.specs.declared.node.Operand.TheVariants as operand
+use Rattle.code_forms.specs.declared.operand.Operand.{Operand}
+use Rattle.code_forms.specs.declared.operand.Operand.TheVariants as operand
 use Rattle.node_tree.specs.Nodes as nodes
 use Rattle.py_meaning.specs.Frames as python
 
@@ -55,7 +55,7 @@ Facts = List Fact
 -- the facts are so, in a frame of nodes beside one that carries this value
 abbrev pub Fits : Facts → Value → nodes.Frame → Type 0
 Fits [] c g = Unit {0}
-Fits (Holds o v ∷ fs) c g = (nodes.held g o ≡ Some v) × Fits fs c g
+Fits (Holds o v ∷ fs) c g = (nodes.operand_value g o ≡ Some v) × Fits fs c g
 Fits (Alike v w ∷ fs) c g = (v ≡ w) × Fits fs c g
 Fits (Keeps t ∷ fs) c g = (g.temps t ≡ Some c) × Fits fs c g
 Fits (Never ∷ fs) c g = ⊥

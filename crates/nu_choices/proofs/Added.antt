@@ -4,9 +4,9 @@ use Rattle.nu_value.specs.declared.value.Value.{Value}
 use Rattle.op_forms.specs.declared.op.Op.{Op}
 use Rattle.nu_rows.specs.Words.{then_value}
 use Rattle.nu_calls.specs.Calls.{operate}
-use Rattle.node_tree.specs.declared.node.Argument.{Argument}
-use Rattle.node_tree.specs.declared.node.Argument.TheVariants as argument
-use Rattle.node_tree.specs.declared.node.Operand.TheVariants as operand
+use Rattle.code_forms.specs.declared.operand.Argument.{Argument}
+use Rattle.code_forms.specs.declared.operand.Argument.TheVariants as argument
+use Rattle.code_forms.specs.declared.operand.Operand.TheVariants as operand
 use Rattle.node_tree.specs.Blocks.{of_temp}
 use Rattle.node_tree.specs.Blocks as tree
 use Rattle.node_tree.specs.Nodes as nodes

@@ -4,9 +4,9 @@ use Rattle.nu_value.specs.declared.value.Value.{Value}
 use Rattle.op_forms.specs.declared.op.Op.{Op}
 use Rattle.op_forms.specs.declared.op.Op.TheVariants as op
 use Rattle.nu_rows.specs.Words.{then_value}
-use Rattle.node_tree.specs.declared.node.Argument.TheVariants as argument
-use Rattle.node_tree.specs.declared.node.Operand.{Operand}
-use Rattle.node_tree.specs.declared.node.Operand.TheVariants as operand
+use Rattle.code_forms.specs.declared.operand.Argument.TheVariants as argument
+use Rattle.code_forms.specs.declared.operand.Operand.{Operand}
+use Rattle.code_forms.specs.declared.operand.Operand.TheVariants as operand
 use Rattle.node_tree.specs.Blocks.{of_temp}
 use Rattle.node_tree.specs.Blocks as tree
 use Rattle.node_tree.specs.Nodes as nodes
@@ -31,7 +31,7 @@ compared_by : (z : Setting) (h : Homes) (gs : Facts) (line t : ℕ) (o : Op) (ne
 compared_by z h gs line t o negated v w a b above off off₁ ka kb = go negated
   where
     both : (c : Value) (g : nodes.Frame) → Fits gs c g → nodes.values g (argument.Value a ∷ argument.Value b ∷ []) ≡ Some (v ∷ w ∷ [])
-    both c g y = ap (λ q. nodes.both q (nodes.both (nodes.held g b) (Some []))) (ka c g y) ∙ ap (λ q. nodes.both (Some v) (nodes.both q (Some []))) (kb c g y)
+    both c g y = ap (λ q. nodes.both q (nodes.both (nodes.operand_value g b) (Some []))) (ka c g y) ∙ ap (λ q. nodes.both (Some v) (nodes.both q (Some []))) (kb c g y)
 
     go : (negated : Bool) → CarriedTo z h (Into z h t gs) gs (compared (source z) line o negated v w) (nodes.block_row (target z) (compared_block line t o negated a b))
     go false = operate_into z h t gs above gs (λ c g y. y) line o (v ∷ w ∷ []) (argument.Value a ∷ argument.Value b ∷ []) off both

@@ -8,9 +8,9 @@ use Rattle.nu_rows.specs.Rows.{Next, Leave, Raised, Return, Stopped, Undefined, 
 use Rattle.nu_rows.specs.Words.{ends_with, on_next}
 use Rattle.nu_rows.specs.Matching.{Silent}
 use Rattle.nu_calls.specs.Calls.{operate}
-use Rattle.node_tree.specs.declared.node.Argument.{Argument}
-use Rattle.node_tree.specs.declared.node.Operand.{Operand}
-use Rattle.node_tree.specs.declared.node.Operand.TheVariants as operand
+use Rattle.code_forms.specs.declared.operand.Argument.{Argument}
+use Rattle.code_forms.specs.declared.operand.Operand.{Operand}
+use Rattle.code_forms.specs.declared.operand.Operand.TheVariants as operand
 use Rattle.node_tree.specs.Blocks.{alone}
 use Rattle.node_tree.specs.Blocks as tree
 use Rattle.node_tree.specs.Nodes as nodes
@@ -45,7 +45,7 @@ pub off_part : (h : Homes) (low high d : ℕ) (x : syntax.Expression) (p : Carri
 off_part h low high d x p v fs c le off = let l = c.within.1 in within_off c.from c.to d p.value v fs c.carries.within (omega arith) off
 
 -- what an operand holds goes to a temporary, silently
-moved_silent : (z : Setting) (to : ℕ) (o : Operand) (v : Value) (t : T) → nodes.held t.frame o ≡ Some v → (w : Value) × (w ≡ v) × Silent (does (columns z) (nodes.block_row (target z) (moved to o)) Begin t) (Next value.None) (nodes.writes t to w)
+moved_silent : (z : Setting) (to : ℕ) (o : Operand) (v : Value) (t : T) → nodes.operand_value t.frame o ≡ Some v → (w : Value) × (w ≡ v) × Silent (does (columns z) (nodes.block_row (target z) (moved to o)) Begin t) (Next value.None) (nodes.writes t to w)
 moved_silent z to (operand.Temp from) v t e = (
   v,
   refl,

@@ -1,6 +1,6 @@
 -- What blocks carry of expressions whose parts aren't all evaluated, and of those that collect their parts.
 use Rattle.std.specs.Prelude.{ℕ, ◌+◌, ◌≤◌, List, Bool, true, false}
-use Rattle.node_tree.specs.declared.node.Operand.TheVariants as operand
+use Rattle.code_forms.specs.declared.operand.Operand.TheVariants as operand
 use Rattle.node_tree.specs.Blocks as tree
 use Rattle.py_meaning.specs.Syntax as syntax
 use Rattle.nu_carries.specs.Frames.{Homes, behind}

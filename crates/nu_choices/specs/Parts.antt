@@ -1,6 +1,6 @@
 -- Parts of expressions, which write temporaries in front of those that are drawn for the whole.
 use Rattle.std.specs.Prelude.{ℕ}
-use Rattle.node_tree.specs.declared.node.Operand.{Operand}
+use Rattle.code_forms.specs.declared.operand.Operand.{Operand}
 use Rattle.node_tree.specs.Blocks.{alone, puts}
 use Rattle.node_tree.specs.Blocks as tree
 use Rattle.py_meaning.specs.Syntax as syntax

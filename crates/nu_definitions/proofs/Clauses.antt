@@ -2,9 +2,9 @@
 use Rattle.std.proofs.Common.{◌⊎◌, ℕ, ◌+◌, ◌<◌, ◌≤◌, [], ◌∷◌, Some, ap, ◌∙◌, arith}
 use Rattle.op_forms.specs.declared.op.Op.TheVariants as op
 use Rattle.nu_calls.specs.Calls.{yields}
-use Rattle.node_tree.specs.declared.node.Argument.TheVariants as argument
-use Rattle.node_tree.specs.declared.node.Operand.{Operand}
-use Rattle.node_tree.specs.declared.node.Operand.TheVariants as operand
+use Rattle.code_forms.specs.declared.operand.Argument.TheVariants as argument
+use Rattle.code_forms.specs.declared.operand.Operand.{Operand}
+use Rattle.code_forms.specs.declared.operand.Operand.TheVariants as operand
 use Rattle.node_tree.specs.Blocks as tree
 use Rattle.node_tree.specs.Nodes as nodes
 use Rattle.py_meaning.specs.Syntax as syntax
@@ -32,7 +32,7 @@ push_carried h low high line into x b o cx =
       carries = λ z fs v out knows.
           value_then z h fs (EndsAs z h 0 (λ w. fs) fs) (passing z h 0 fs) fs low high x b o _ _ (λ c g y. y) cx (outside_less h low (high + 1) low high fs (omega arith) (omega arith) out)
           (λ w. do_last z h 0 fs (Holds o w ∷ fs) line high op.Push (v ∷ w ∷ []) (argument.Value into ∷ argument.Value o ∷ []) (λ c g y. y.1) (omega arith) (within_off low high high o w fs cx.within (omega arith) (outside_off h low (high + 1) high fs le (omega arith) out))
-          (λ c g y. ap (λ u. nodes.both u (nodes.both (nodes.held g o) (Some []))) (knows c g y.1) ∙ ap (λ u. nodes.both (Some v) (nodes.both u (Some []))) y.0));
+          (λ c g y. ap (λ u. nodes.both u (nodes.both (nodes.operand_value g o) (Some []))) (knows c g y.1) ∙ ap (λ u. nodes.both (Some v) (nodes.both u (Some []))) y.0));
     }
 
 pub put_carried : (h : Homes) (low mid high line : ℕ) (into : Operand) (key x : syntax.Expression) (kb b : tree.Block) (k o : Operand) → CarriesExpression h low mid key kb k → CarriesExpression h mid high x b o → CarriesTurns h low (high + 1) line into (syntax.Put key x) (entry_block line high into kb k b o)
@@ -51,8 +51,8 @@ put_carried h low mid high line into key x kb b k o ck cx =
           (λ w. do_last z h 0 fs (Holds o w ∷ f₁) line high op.Put (v ∷ u ∷ w ∷ []) (argument.Value into ∷ argument.Value k ∷ argument.Value o ∷ []) (λ c g y. y.1.1) (omega arith)
           (within_off mid high high o w f₁ cx.within (omega arith) (within_off low mid high k u fs ck.within (omega arith) (outside_off h low (high + 1) high fs (omega arith) (omega arith) out)))
           (λ c g y.
-          ap (λ q. nodes.both q (nodes.both (nodes.held g k) (nodes.both (nodes.held g o) (Some [])))) (knows c g y.1.1)
-          ∙ ap (λ q. nodes.both (Some v) (nodes.both q (nodes.both (nodes.held g o) (Some [])))) y.1.0
+          ap (λ q. nodes.both q (nodes.both (nodes.operand_value g k) (nodes.both (nodes.operand_value g o) (Some [])))) (knows c g y.1.1)
+          ∙ ap (λ q. nodes.both (Some v) (nodes.both q (nodes.both (nodes.operand_value g o) (Some [])))) y.1.0
           ∙ ap (λ q. nodes.both (Some v) (nodes.both (Some u) (nodes.both q (Some [])))) y.0)));
     }
 

@@ -4,9 +4,9 @@ use Rattle.nu_value.specs.declared.value.Value.{Value}
 use Rattle.op_forms.specs.declared.op.Op.TheVariants as op
 use Rattle.nu_rows.specs.Words.{then_value}
 use Rattle.nu_calls.specs.Calls.{operate}
-use Rattle.node_tree.specs.declared.node.Argument.TheVariants as argument
-use Rattle.node_tree.specs.declared.node.Operand.{Operand}
-use Rattle.node_tree.specs.declared.node.Operand.TheVariants as operand
+use Rattle.code_forms.specs.declared.operand.Argument.TheVariants as argument
+use Rattle.code_forms.specs.declared.operand.Operand.{Operand}
+use Rattle.code_forms.specs.declared.operand.Operand.TheVariants as operand
 use Rattle.node_tree.specs.Blocks.{alone}
 use Rattle.node_tree.specs.Blocks as tree
 use Rattle.node_tree.specs.Nodes as nodes
@@ -78,7 +78,7 @@ module _ (z : Setting) (h : Homes) (fs : Facts) (Q : AllEnds) (pass : Passes z h
       (λ w gs' more' known out'.
       subst (λ n. CarriedTo z h Q gs' (then_value (operate (source z) n op.Call (q.1 ∷ w ∷ [])) K) (nodes.block_row (target z) (tree.Follow call last))) (sym know.0)
       (do_then z h fs Q pass gs' d.line to op.Call (q.1 ∷ w ∷ []) (argument.Value p.value ∷ argument.Value (decorated_at t ds o) ∷ []) K (nodes.block_row (target z) last) (λ c g y. more c g (more' c g y)) (omega arith) (outside_off h to top to gs' (omega arith) (omega arith) out')
-      (λ c g y. ap (λ u. nodes.both u (nodes.both (nodes.held g (decorated_at t ds o)) (Some []))) (know.1 c g (more' c g y)) ∙ ap (λ u. nodes.both (Some q.1) (nodes.both u (Some []))) (known c g y))
+      (λ c g y. ap (λ u. nodes.both u (nodes.both (nodes.operand_value g (decorated_at t ds o)) (Some []))) (know.1 c g (more' c g y)) ∙ ap (λ u. nodes.both (Some q.1) (nodes.both u (Some []))) (known c g y))
       (λ u. next u (Holds (operand.Temp to) u ∷ gs') (λ c g y. more' c g y.1) (λ c g y. y.0)
       ((omega arith, inl (omega arith)), outside_less h to top (t + length (d ∷ ds)) top gs' (omega arith) (omega arith) out')))))
   decorated_to t top ds ps vs o v gs K last st le more know knows out next = absurd know

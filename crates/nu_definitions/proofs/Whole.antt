@@ -1,7 +1,7 @@
 -- `yield from`, with all that follows what is sent and thrown.
 use Rattle.std.proofs.Common.{ℕ, ◌+◌, ◌≤◌, arith}
-use Rattle.node_tree.specs.declared.node.Operand.{Operand}
-use Rattle.node_tree.specs.declared.node.Operand.TheVariants as operand
+use Rattle.code_forms.specs.declared.operand.Operand.{Operand}
+use Rattle.code_forms.specs.declared.operand.Operand.TheVariants as operand
 use Rattle.node_tree.specs.Blocks as tree
 use Rattle.py_meaning.specs.Syntax as syntax
 use Rattle.nu_carries.specs.Frames.{Homes, behind}

@@ -5,7 +5,7 @@ use Rattle.nu_value.specs.declared.value.Value.TheVariants as value
 use Rattle.nu_rows.specs.Rows.{End, Next, Leave, Raised, Return, Stopped, Undefined, Start, Begin, Back, Res, Spent, Paused, Ended, Then, does}
 use Rattle.nu_rows.specs.Words.{ends_with, on_next, on_raised}
 use Rattle.nu_rows.specs.Sim.{Places, Below, other_places, other_ends, Both}
-use Rattle.node_tree.specs.declared.node.Operand.TheVariants as operand
+use Rattle.code_forms.specs.declared.operand.Operand.TheVariants as operand
 use Rattle.node_tree.specs.Blocks.{alone, flag}
 use Rattle.node_tree.specs.Blocks as tree
 use Rattle.node_tree.specs.Nodes as nodes

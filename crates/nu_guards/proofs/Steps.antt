@@ -5,10 +5,10 @@ use Rattle.op_forms.specs.declared.op.Op.{Op}
 use Rattle.op_forms.specs.declared.op.Op.TheVariants as op
 use Rattle.nu_rows.specs.Words.{then_value}
 use Rattle.nu_calls.specs.Calls.{operate}
-use Rattle.node_tree.specs.declared.node.Argument.{Argument}
-use Rattle.node_tree.specs.declared.node.Argument.TheVariants as argument
-use Rattle.node_tree.specs.declared.node.Operand.{Operand}
-use Rattle.node_tree.specs.declared.node.Operand.TheVariants as operand
+use Rattle.code_forms.specs.declared.operand.Argument.{Argument}
+use Rattle.code_forms.specs.declared.operand.Argument.TheVariants as argument
+use Rattle.code_forms.specs.declared.operand.Operand.{Operand}
+use Rattle.code_forms.specs.declared.operand.Operand.TheVariants as operand
 use Rattle.node_tree.specs.Blocks.{alone, of_temp}
 use Rattle.node_tree.specs.Blocks as tree
 use Rattle.node_tree.specs.Nodes as nodes
@@ -50,7 +50,7 @@ module _ (z : Setting) (h : Homes) (n : ℕ) (fs : Facts) where
       one_by z h n _ Q _ _ (unvalued z h n (λ v. fs) fs)
       (lessen z h n (λ u. Holds (operand.Temp to) u ∷ gs) (λ v. fs) fs gs _ _ (λ u c g y. more c g y.1) more (operate_carried z h n gs line o vs to args above off known))
 
-  pub raise_by : (gs : Facts) (line t : ℕ) (o : Operand) (v : Value) → Extends gs fs → behind h ≤ t → Off t gs → Off (t + 1) gs → ((c : Value) (g : nodes.Frame) → Fits gs c g → nodes.held g o ≡ Some v) → CarriedTo z h Q gs (raise (source z) line v) (nodes.block_row (target z) (raise_block line t o))
+  pub raise_by : (gs : Facts) (line t : ℕ) (o : Operand) (v : Value) → Extends gs fs → behind h ≤ t → Off t gs → Off (t + 1) gs → ((c : Value) (g : nodes.Frame) → Fits gs c g → nodes.operand_value g o ≡ Some v) → CarriedTo z h Q gs (raise (source z) line v) (nodes.block_row (target z) (raise_block line t o))
   raise_by gs line t o v more above off₁ off₂ known =
       do_then z h fs Q passing gs line t op.Exc (v ∷ []) (argument.Value o ∷ []) _ _ more above off₁ (λ c g y. ap (λ u. nodes.both u (Some [])) (known c g y))
       (λ x. do_last (Holds (operand.Temp t) x ∷ gs) line (t + 1) op.Raise (x ∷ []) (of_temp t ∷ []) (λ c g y. more c g y.1) (omega arith) (λ e. let e₁ : t ≡ t + 1 = e in omega arith, off₂) (λ c g y. ap (λ u. nodes.both u (Some [])) y.0))

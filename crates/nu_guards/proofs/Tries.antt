@@ -5,10 +5,10 @@ use Rattle.nu_value.specs.declared.value.Value.TheVariants as value
 use Rattle.op_forms.specs.declared.op.Op.TheVariants as op
 use Rattle.nu_rows.specs.Rows.{End, Next, Leave, Raised, Return, Stopped, Undefined}
 use Rattle.nu_rows.specs.Words.{ends_with}
-use Rattle.node_tree.specs.declared.node.Argument.{Argument}
-use Rattle.node_tree.specs.declared.node.Argument.TheVariants as argument
-use Rattle.node_tree.specs.declared.node.Operand.{Operand}
-use Rattle.node_tree.specs.declared.node.Operand.TheVariants as operand
+use Rattle.code_forms.specs.declared.operand.Argument.{Argument}
+use Rattle.code_forms.specs.declared.operand.Argument.TheVariants as argument
+use Rattle.code_forms.specs.declared.operand.Operand.{Operand}
+use Rattle.code_forms.specs.declared.operand.Operand.TheVariants as operand
 use Rattle.node_tree.specs.Blocks.{alone, of_temp}
 use Rattle.node_tree.specs.Blocks as tree
 use Rattle.node_tree.specs.Nodes as nodes
@@ -165,7 +165,7 @@ clause_carried h low t cl ch bl bh rl rh temp line class name body rest cb bb rb
           let Q : AllEnds = EndsAs z h 2 (λ v. fs) fs in
           value_then z h fs Q (passing z h 2 fs) fs cl ch class cb o _ _ (λ c g y. y) cc (outside_less h low (t + 1) cl ch fs wc.0 (omega arith) out)
           (λ v. do_then z h fs Q (passing z h 2 fs) (Holds o v ∷ fs) line t op.Match (value.Obj x ∷ v ∷ []) (of_temp temp ∷ argument.Value o ∷ []) _ _ (λ c g y. y.1) (omega arith) (within_off cl ch t o v fs cc.within wc.1 (outside_off h low (t + 1) t fs (omega arith) (omega arith) out))
-          (λ c g y. ap (λ u. nodes.both u (nodes.both (nodes.held g o) (Some []))) (known c g y.1) ∙ ap (λ u. nodes.both (Some (value.Obj x)) (nodes.both u (Some []))) y.0)
+          (λ c g y. ap (λ u. nodes.both u (nodes.both (nodes.operand_value g o) (Some []))) (known c g y.1) ∙ ap (λ u. nodes.both (Some (value.Obj x)) (nodes.both u (Some []))) y.0)
           (λ b.
           let gs : Facts = Holds (operand.Temp t) b ∷ Holds o v ∷ fs in
           one_by z h 2 _ Q _ _ (unvalued z h 2 (λ v. fs) fs)

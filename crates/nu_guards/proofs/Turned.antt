@@ -4,7 +4,7 @@ use Rattle.nu_value.specs.declared.value.Value.{Value}
 use Rattle.nu_value.specs.declared.value.Value.TheVariants as value
 use Rattle.nu_rows.specs.Rows.{End, Next, Leave, Raised, Return, Stopped, Undefined, Then}
 use Rattle.nu_rows.specs.Words.{on_next}
-use Rattle.node_tree.specs.declared.node.Operand.TheVariants as operand
+use Rattle.code_forms.specs.declared.operand.Operand.TheVariants as operand
 use Rattle.node_tree.specs.Blocks.{alone}
 use Rattle.node_tree.specs.Blocks as tree
 use Rattle.node_tree.specs.Nodes as nodes

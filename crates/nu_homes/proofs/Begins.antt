@@ -97,10 +97,10 @@ module _ (code : ℕ) (given cells : List Value) where
   codes_alike : (kind : Bool) (h : Homes) (c : syntax.Code) (k : NodeCode) → HaveRoom h → HaveHomes h c k → BegunAs h (bodies.begun_frame kind code given cells (Some c)) (node_run.begun_frame kind code given cells (Some k))
   codes_alike kind h c k room homes =
       let is : Bool = of_kind kind c.header.generator in
-      subst (λ g. BegunAs h (source_begun is (length c.header.params) c.locals c.frees) (target_begun (of_kind kind g) (length k.params) k.free)) (sym homes.kind)
-      (subst (λ n. BegunAs h (source_begun is n c.locals c.frees) (target_begun is (length k.params) k.free)) (sym homes.params)
-      (subst (λ n. BegunAs h (source_begun is h.params n c.frees) (target_begun is (length k.params) k.free)) (sym homes.locals)
-      (subst (λ n. BegunAs h (source_begun is h.params h.locals n) (target_begun is (length k.params) k.free)) (sym homes.frees)
+      subst (λ g. BegunAs h (source_begun is (length c.header.params) c.locals c.frees) (target_begun (of_kind kind g) (length k.header.params) k.free)) (sym homes.kind)
+      (subst (λ n. BegunAs h (source_begun is n c.locals c.frees) (target_begun is (length k.header.params) k.free)) (sym homes.params)
+      (subst (λ n. BegunAs h (source_begun is h.params n c.frees) (target_begun is (length k.header.params) k.free)) (sym homes.locals)
+      (subst (λ n. BegunAs h (source_begun is h.params h.locals n) (target_begun is (length k.header.params) k.free)) (sym homes.frees)
       (subst (λ n. BegunAs h (source_begun is h.params h.locals h.frees) (target_begun is n k.free)) (sym homes.given)
       (subst (λ n. BegunAs h (source_begun is h.params h.locals h.frees) (target_begun is h.params n)) (sym homes.cells)
       (begin_alike h room is (nat_le h.params (length given)) (nat_le h.frees (length cells)) refl refl))))))

@@ -9,9 +9,9 @@ use Rattle.nu_rows.specs.Rows.{End, Next, Raised, Stopped, Undefined}
 use Rattle.nu_rows.specs.Words.{on_next, then_value}
 use Rattle.nu_calls.specs.Surroundings.{Surroundings}
 use Rattle.nu_calls.specs.Calls.{Pause, state_of, operate}
-use Rattle.node_tree.specs.declared.node.Argument.{Argument}
-use Rattle.node_tree.specs.declared.node.Operand.{Operand}
-use Rattle.node_tree.specs.declared.node.Operand.TheVariants as operand
+use Rattle.code_forms.specs.declared.operand.Argument.{Argument}
+use Rattle.code_forms.specs.declared.operand.Operand.{Operand}
+use Rattle.code_forms.specs.declared.operand.Operand.TheVariants as operand
 use Rattle.node_tree.specs.Blocks.{alone, of_temp}
 use Rattle.node_tree.specs.Blocks as tree
 use Rattle.node_tree.specs.Nodes as nodes
@@ -100,7 +100,7 @@ module _ (z : Setting) (h : Homes) where
         (λ v. operate_first h.locals (place + 1) (Holds (operand.Temp (local_at h param)) v ∷ cell) (λ v. Staged h.locals (place + 1) []) t
         (λ tabs v₁ w₁ s u e q. written z (at_stage h h.locals (place + 1)) tabs [] t w₁ s u above tt (refit z (at_stage h h.locals (place + 1)) tabs (Holds (operand.Temp (local_at h param)) v ∷ cell) [] s u (λ k. tt) q))
         line op.CellSet (c ∷ v ∷ []) (of_temp (own_at h place) ∷ of_temp (local_at h param) ∷ [])
-        (λ k g q. ap (λ w. nodes.both w (nodes.both (nodes.held g (operand.Temp (local_at h param))) (Some []))) q.1.0 ∙ ap (λ w. nodes.both (Some c) (nodes.both w (Some []))) q.0)))
+        (λ k g q. ap (λ w. nodes.both w (nodes.both (nodes.operand_value g (operand.Temp (local_at h param))) (Some []))) q.1.0 ∙ ap (λ w. nodes.both (Some c) (nodes.both w (Some []))) q.0)))
         (λ v. y)
 
     -- the cells are made

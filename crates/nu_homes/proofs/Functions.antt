@@ -4,8 +4,8 @@ use Rattle.nu_value.specs.declared.value.Value.{Value}
 use Rattle.nu_value.specs.declared.value.Value.TheVariants as value
 use Rattle.op_forms.specs.declared.constant.Const.TheVariants as const
 use Rattle.op_forms.specs.declared.op.Op.TheVariants as op
-use Rattle.node_tree.specs.declared.node.Argument.TheVariants as argument
-use Rattle.node_tree.specs.declared.node.Operand.TheVariants as operand
+use Rattle.code_forms.specs.declared.operand.Argument.TheVariants as argument
+use Rattle.code_forms.specs.declared.operand.Operand.TheVariants as operand
 use Rattle.node_tree.specs.Blocks.{alone, of_temp}
 use Rattle.node_tree.specs.Blocks as tree
 use Rattle.node_tree.specs.Nodes as nodes
@@ -110,7 +110,7 @@ module _ (z : Setting) (h : Homes) (n : ℕ) (k : Value → Facts) where
       (weaken z h n (λ v. Holds (operand.Temp to) v ∷ fs) (λ v. fs) fs _ _ (λ v. forget (Holds (operand.Temp to) v) fs)
       (operate_carried z h n fs line op.Put (d ∷ python.text q.0 ∷ q.1 ∷ []) to (of_temp dict ∷ argument.Value (operand.Const (const.Str name)) ∷ argument.Value p.value ∷ []) st (outside_off h to top to fs (omega arith) (omega arith) out)
       (λ c g w.
-      ap (λ u. nodes.both u (nodes.both (Some (python.text name)) (nodes.both (nodes.held g p.value) (Some [])))) (made c g w)
+      ap (λ u. nodes.both u (nodes.both (Some (python.text name)) (nodes.both (nodes.operand_value g p.value) (Some [])))) (made c g w)
       ∙ ap (λ u. nodes.both (Some d) (nodes.both (Some (python.text name)) (nodes.both u (Some [])))) (know.1 c g w)
       ∙ ap (λ u. Some (d ∷ python.text u ∷ q.1 ∷ [])) (sym know.0))))
       (λ v. put_to line dict (to + 1) top d xs ps qs fs r last (omega arith) le know.2 made (outside_less h to top (to + 1) top fs (omega arith) (omega arith) out) x)

@@ -9,7 +9,7 @@ use Rattle.nu_rows.proofs.Congruence.{sub_both}
 use Rattle.nu_calls.specs.Surroundings.{Surroundings, scene}
 use Rattle.nu_calls.specs.Ends.{at_line}
 use Rattle.nu_calls.specs.Calls.{Pause, state_of, operates, enlisted, on_line}
-use Rattle.node_tree.specs.declared.node.Argument.{Argument}
+use Rattle.code_forms.specs.declared.operand.Argument.{Argument}
 use Rattle.node_tree.specs.Nodes as nodes
 use Rattle.py_meaning.specs.Frames as python
 use Rattle.nu_carries.specs.Frames.{Homes, local_at, own_at, free_at, Facts, Fits, FramesAs}

@@ -8,9 +8,9 @@ use Rattle.op_forms.specs.Constants.{value_of}
 use Rattle.nu_rows.specs.Rows.{Next}
 use Rattle.nu_rows.specs.Words.{then_value}
 use Rattle.nu_calls.specs.Calls.{state_of, operate}
-use Rattle.node_tree.specs.declared.node.Argument.TheVariants as argument
-use Rattle.node_tree.specs.declared.node.Operand.{Operand}
-use Rattle.node_tree.specs.declared.node.Operand.TheVariants as operand
+use Rattle.code_forms.specs.declared.operand.Argument.TheVariants as argument
+use Rattle.code_forms.specs.declared.operand.Operand.{Operand}
+use Rattle.code_forms.specs.declared.operand.Operand.TheVariants as operand
 use Rattle.node_tree.specs.Blocks.{alone, puts, of_temp}
 use Rattle.node_tree.specs.Blocks as tree
 use Rattle.node_tree.specs.Nodes as nodes
@@ -61,16 +61,16 @@ module _ (z : Setting) (h : Homes) (to line : ℕ) (room : HaveRoom h) (above : 
       local_put place fs v o l (outside_home h low (to + 1) (local_at h place) fs (local_below h place room (omega arith)) out) knows
   stored_at low fs (syntax.Own place name) v o l le out knows =
       dropped fs _ _ (seat_carried z h 0 (own_at h place) to line _ op.CellSet (λ c. c ∷ v ∷ []) (of_temp (own_at h place) ∷ argument.Value o ∷ []) fs (own_seat h place room l) above (outside_off h low (to + 1) to fs le (omega arith) out)
-      (λ w c g y. ap (λ u. nodes.both u (nodes.both (nodes.held g o) (Some []))) y.0 ∙ ap (λ u. nodes.both (Some w) (nodes.both u (Some []))) (knows c g y.1)))
+      (λ w c g y. ap (λ u. nodes.both u (nodes.both (nodes.operand_value g o) (Some []))) y.0 ∙ ap (λ u. nodes.both (Some w) (nodes.both u (Some []))) (knows c g y.1)))
   stored_at low fs (syntax.Free place name) v o l le out knows =
       dropped fs _ _ (seat_carried z h 0 (free_at h place) to line _ op.CellSet (λ c. c ∷ v ∷ []) (of_temp (free_at h place) ∷ argument.Value o ∷ []) fs (free_seat h place room l) above (outside_off h low (to + 1) to fs le (omega arith) out)
-      (λ w c g y. ap (λ u. nodes.both u (nodes.both (nodes.held g o) (Some []))) y.0 ∙ ap (λ u. nodes.both (Some w) (nodes.both u (Some []))) (knows c g y.1)))
+      (λ w c g y. ap (λ u. nodes.both u (nodes.both (nodes.operand_value g o) (Some []))) y.0 ∙ ap (λ u. nodes.both (Some w) (nodes.both u (Some []))) (knows c g y.1)))
   stored_at low fs (syntax.Module name) v o l le out knows =
       dropped fs _ _ (operate_carried z h 0 fs line op.SetGlobal (python.text name ∷ v ∷ []) to (argument.Name name ∷ argument.Value o ∷ []) above (outside_off h low (to + 1) to fs le (omega arith) out)
       (λ c g y. ap (λ u. nodes.both (Some (python.text name)) (nodes.both u (Some []))) (knows c g y)))
   stored_at low fs (syntax.InClass name) v o l le out knows =
       dropped fs _ _ (seat_carried z h 0 (local_at h 0) to line _ op.SpaceSet (λ c. c ∷ python.text name ∷ v ∷ []) (of_temp (local_at h 0) ∷ argument.Name name ∷ argument.Value o ∷ []) fs (local_seat h 0 room l) above (outside_off h low (to + 1) to fs le (omega arith) out)
-      (λ w c g y. ap (λ u. nodes.both u (nodes.both (Some (python.text name)) (nodes.both (nodes.held g o) (Some [])))) y.0 ∙ ap (λ u. nodes.both (Some w) (nodes.both (Some (python.text name)) (nodes.both u (Some [])))) (knows c g y.1)))
+      (λ w c g y. ap (λ u. nodes.both u (nodes.both (Some (python.text name)) (nodes.both (nodes.operand_value g o) (Some [])))) y.0 ∙ ap (λ u. nodes.both (Some w) (nodes.both (Some (python.text name)) (nodes.both u (Some [])))) (knows c g y.1)))
 
   -- a name is unbound
   pub unbound_at : (low : ℕ) (fs : Facts) (home : syntax.Home) → HasPlace h home → low ≤ to → Outside h low (to + 1) fs → Carried z h 0 (λ w. fs) fs (python.unbind (source z) line home) (nodes.block_row (target z) (unbinds h to line home))

@@ -4,8 +4,8 @@ use Rattle.nu_value.specs.declared.value.Value.{Value}
 use Rattle.op_forms.specs.declared.op.Op.{Op}
 use Rattle.nu_rows.specs.Words.{then_value}
 use Rattle.nu_calls.specs.Calls.{operate}
-use Rattle.node_tree.specs.declared.node.Argument.{Argument}
-use Rattle.node_tree.specs.declared.node.Operand.TheVariants as operand
+use Rattle.code_forms.specs.declared.operand.Argument.{Argument}
+use Rattle.code_forms.specs.declared.operand.Operand.TheVariants as operand
 use Rattle.node_tree.specs.Nodes as nodes
 use Rattle.py_meaning.specs.Frames as python
 use Rattle.nu_carries.specs.Frames.{Homes, HaveRoom, local_at, own_at, free_at, behind, Holds, Facts, Fits, FramesAs}

@@ -46,11 +46,11 @@ pub record AreWhole (h : Homes) (more : ℕ) (cells : List (Option ℕ)) : Type 
 -- what stands before a code and its nodes has the homes of the code
 pub record HaveHomes (h : Homes) (c : syntax.Code) (k : NodeCode) : Type 0 where
   pub params : length c.header.params ≡ h.params
-  pub given : length k.params ≡ h.params
+  pub given : length k.header.params ≡ h.params
   pub frees : c.frees ≡ h.frees
   pub cells : k.free ≡ h.frees
   pub locals : c.locals ≡ h.locals
-  pub kind : k.generator ≡ c.header.generator
+  pub kind : k.header.generator ≡ c.header.generator
 
 -- the body of a code is carried, from where its local variables and cells have their temporaries
 abbrev pub CarriesBody : Setting → Homes → syntax.Body → tree.Block → Type 0

@@ -1,7 +1,7 @@
 -- Assignments of one value to several targets.
 use Rattle.std.proofs.Common.{ℕ, ◌≤◌, ◌∷◌, Option, arith}
 use Rattle.nu_value.specs.declared.value.Value.{Value}
-use Rattle.node_tree.specs.declared.node.Operand.{Operand}
+use Rattle.code_forms.specs.declared.operand.Operand.{Operand}
 use Rattle.node_tree.specs.Blocks as tree
 use Rattle.py_meaning.specs.Syntax as syntax
 use Rattle.nu_carries.specs.Frames.{Homes, behind, Holds, Facts, IsOff}

@@ -3,7 +3,7 @@ use Rattle.std.specs.Prelude.{◌≡◌, ℕ, ◌≤◌, List, map, Option, None
 use Rattle.py_ast.specs.declared.expr.Binary.{Binary}
 use Rattle.py_ast.specs.declared.expr.Expr.{Expr}
 use Rattle.node_tree.specs.declared.node.Node.{Node}
-use Rattle.node_tree.specs.declared.node.Operand.{Operand}
+use Rattle.code_forms.specs.declared.operand.Operand.{Operand}
 use Rattle.node_tree.specs.Tree as tree
 use Rattle.py_meaning.specs.Syntax as syntax
 use Rattle.py_meaning.specs.Resolved as meaning

@@ -3,7 +3,7 @@ use Rattle.std.proofs.Common.{◌≡◌, ℕ, suc, ◌+◌, length, map, List, [
 use Rattle.std.specs.Prelude.{slice_get}
 use Rattle.op_forms.specs.declared.signature.ArgumentKind.{ArgumentKind}
 use Rattle.node_tree.specs.declared.node.Node.{Node}
-use Rattle.node_tree.specs.declared.node.Argument.TheVariants as argument
+use Rattle.code_forms.specs.declared.operand.Argument.TheVariants as argument
 use Rattle.node_tree.specs.Blocks as tree
 use Rattle.node_tree.specs.Contents.{form_total, total}
 use Rattle.node_tree.specs.Tree.{form, block}

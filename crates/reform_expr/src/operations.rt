@@ -5,7 +5,7 @@ ghost use Rattle.op_forms.specs.declared.op.Op.TheVariants as op_named;
 ghost use Rattle.op_forms.specs.Signature as signature;
 ghost use Rattle.node_tree.specs.Blocks as tree;
 ghost use Rattle.node_tree.specs.Contents.{total};
-ghost use Rattle.node_tree.specs.declared.node.Operand.TheVariants as operand;
+ghost use Rattle.code_forms.specs.declared.operand.Operand.TheVariants as operand;
 ghost use Rattle.node_tree.specs.Tree.{block};
 ghost use Rattle.py_meaning.specs.Syntax as syntax;
 ghost use Rattle.nu_carries.specs.Frames.{Homes};

@@ -3,10 +3,11 @@
 ghost use Rattle.std.specs.Prelude.{◌≡◌, ℕ, ◌+◌, ◌≤◌, List, [], ◌∷◌, Bool, Option, OnOk, IfOk};
 ghost use Rattle.op_forms.specs.declared.constant.Const.{Const as Constant};
 ghost use Rattle.op_forms.specs.declared.op.Op.{Op as Operation};
-ghost use Rattle.node_tree.specs.declared.node.Argument.{Argument as Taken};
-ghost use Rattle.node_tree.specs.declared.node.Argument.TheVariants as argument;
-ghost use Rattle.node_tree.specs.declared.node.Operand.{Operand as Tested};
-ghost use Rattle.node_tree.specs.Contents.{operations, constants, operand_constants, yields};
+ghost use Rattle.code_forms.specs.declared.operand.Argument.{Argument as Taken};
+ghost use Rattle.code_forms.specs.declared.operand.Argument.TheVariants as argument;
+ghost use Rattle.code_forms.specs.declared.operand.Operand.{Operand as Tested};
+ghost use Rattle.node_tree.specs.Contents.{operations, constants, yields};
+ghost use Rattle.code_forms.specs.Contents.{operand_constants};
 ghost use Rattle.node_tree.specs.Tree.{block};
 ghost use Rattle.py_meaning.specs.Syntax as syntax;
 ghost use Rattle.nu_carries.specs.Frames.{Homes, behind};

@@ -1,6 +1,6 @@
 -- What blocks of assignments carry.
 use Rattle.std.specs.Prelude.{ℕ, ◌≤◌, Option}
-use Rattle.node_tree.specs.declared.node.Operand.{Operand}
+use Rattle.code_forms.specs.declared.operand.Operand.{Operand}
 use Rattle.node_tree.specs.Blocks as tree
 use Rattle.py_meaning.specs.Syntax as syntax
 use Rattle.py_meaning.specs.Statements.{assign_all}

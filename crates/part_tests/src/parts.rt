@@ -13,6 +13,7 @@ use op_forms::{After, OpEnd};
 use py_expr::{ParseEnd, expression, exprs, params, target, targets};
 use py_lexer::lex;
 use runtime_table::{World, finish};
+use std::alloc::Global;
 use std::test::Fail;
 
 #[test]
@@ -87,14 +88,21 @@ fn step(machine: &mut Machine, input: &mut MemSource, out: &mut MemSink) -> &'st
     }
 }
 
+// What the first three steps of a run answer, and how many were taken. The machine goes here, where nothing can fail any more.
+fn three_steps(alloc: Global) -> Result<([&'static str; 3], u64), Fail> {
+    let mut out = MemSink::new(alloc);
+    let mut input = MemSource::new(alloc, b"")?;
+    let mut machine = start(alloc, read(alloc, AN_END)?)?;
+    let first = step(&mut machine, &mut input, &mut out);
+    let second = step(&mut machine, &mut input, &mut out);
+    let third = step(&mut machine, &mut input, &mut out);
+    Ok(([first, second, third], machine.steps()))
+}
+
 #[test]
 fn a_machine_takes_single_steps(rt: HostRuntime) -> Result<(), Fail> {
-    let mut out = MemSink::new(rt.alloc());
-    let mut input = MemSource::new(rt.alloc(), b"")?;
-    let mut machine = start(rt.alloc(), read(rt.alloc(), AN_END)?)?;
-    for answer in ["more", "ended", "ended"] {
-        assert_eq!(rt; step(&mut machine, &mut input, &mut out), answer);
-    }
-    assert_eq!(rt; machine.steps(), 2);
+    let (answers, taken) = three_steps(rt.alloc())?;
+    assert_eq!(rt; answers, ["more", "ended", "ended"]);
+    assert_eq!(rt; taken, 2);
     Ok(())
 }
