@@ -1,5 +1,5 @@
 -- `try` with `except` clauses, from the clauses' parts and bodies.
-use Rattle.std.proofs.Common.{◌≡◌, ℕ, ◌+◌, ◌<◌, ◌≤◌, inl, List, [], ◌∷◌, Option, Some, None, refl, subst, arith}
+use Rattle.std.proofs.Common.{ℕ, ◌+◌, ◌≤◌, inl, List, [], ◌∷◌, Option, Some, None, subst, arith}
 use Rattle.op_forms.specs.declared.constant.Const.TheVariants as const
 use Rattle.node_tree.specs.declared.node.Operand.TheVariants as operand
 use Rattle.node_tree.specs.Blocks.{alone}
@@ -9,7 +9,7 @@ use Rattle.nu_carries.specs.Frames.{Homes, HaveRoom, behind}
 use Rattle.nu_carries.specs.Carries.{CarriesStatement, CarriesBlock}
 use Rattle.nu_carries.specs.Laws.{Within}
 use Rattle.nu_guards.specs.Tries.{clause_block, CarriesHandlers, CarriesClause}
-use Rattle.nu_guards.proofs.Tries.{try_carried, no_clause_carried, bare_carried, clause_carried, unnamed_carried, copied_carried}
+use Rattle.nu_guards.proofs.Tries.{try_carried, no_clause_carried, clause_carried, unnamed_carried, copied_carried}
 use Rattle.nu_guards.proofs.Finish.{named_carried}
 use Rattle.carried_codes.specs.Seats.{seat, stores, unbinds}
 use Rattle.carried_codes.specs.Nodes.{bound}

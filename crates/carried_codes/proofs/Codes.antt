@@ -1,7 +1,6 @@
 -- Codes are carried by their nodes.
-use Rattle.std.proofs.Common.{◌≡◌, ℕ, ◌+◌, ◌-◌, ◌<◌, ◌≤◌, List, [], ◌∷◌, length, Bool, false, Option, None, Some, IsTrue, refl, sym, subst, arith}
+use Rattle.std.proofs.Common.{◌≡◌, ℕ, ◌-◌, ◌<◌, ◌≤◌, List, [], ◌∷◌, length, false, Option, None, Some, IsTrue, refl, sym, subst, arith}
 use Rattle.std.specs.Prelude.{slice_get}
-use Rattle.node_tree.specs.Blocks as tree
 use Rattle.node_tree.specs.Tree.{code_block}
 use Rattle.py_meaning.specs.Syntax as syntax
 use Rattle.py_safe.specs.Rosters.{Role, OfModule, OfFunction, OfClass, Roster}

@@ -10,7 +10,7 @@ use Rattle.py_meaning.specs.Syntax as syntax
 use Rattle.py_meaning.specs.Frames as python
 use Rattle.py_safe.specs.Rosters.{Roster}
 use Rattle.py_safe.specs.Constructs.{Room, LawfulTarget, LawfulTurns}
-use Rattle.nu_carries.specs.Frames.{Homes, local_at, behind}
+use Rattle.nu_carries.specs.Frames.{Homes, behind}
 use Rattle.nu_carries.specs.Carries.{Setting, CarriesGiven}
 use Rattle.nu_carries.specs.Laws.{Within}
 use Rattle.nu_carries.proofs.Facts.{outside_less}
@@ -19,7 +19,7 @@ use Rattle.nu_definitions.specs.Collected.{CarriesTurns}
 use Rattle.nu_definitions.proofs.Clauses.{push_carried, put_carried, emit_carried, filter_carried, ranging_carried}
 use Rattle.nu_definitions.proofs.Collected.{generates_carried, gathers_carried}
 use Rattle.carried_codes.specs.Statements.{for_loop, push, put, emit, filter, over, gather}
-use Rattle.carried_codes.specs.Nodes.{value, bind, element, turns, first_loop, collect}
+use Rattle.carried_codes.specs.Nodes.{value, bind, element, turns, collect}
 use Rattle.carried_codes.specs.Laws.{Houses}
 use Rattle.carried_codes.proofs.Expressions.{value_carried}
 use Rattle.carried_codes.proofs.Targets.{bind_carried}

@@ -1,5 +1,5 @@
 -- Expressions are carried by their statements.
-use Rattle.std.proofs.Common.{◌≡◌, ℕ, ◌+◌, ◌<◌, ◌≤◌, map, Bool, true, false, List, [], ◌∷◌, Option, Some, None, IsTrue, refl, sym, subst, inl, arith}
+use Rattle.std.proofs.Common.{◌≡◌, ℕ, ◌≤◌, Bool, true, false, List, [], ◌∷◌, Option, Some, None, refl, subst, arith}
 use Rattle.nu_value.specs.declared.value.Value.{Value}
 use Rattle.nu_value.specs.declared.value.Value.TheVariants as py
 use Rattle.op_forms.specs.Constants.{value_of}
@@ -12,7 +12,7 @@ use Rattle.py_meaning.specs.Syntax as syntax
 use Rattle.py_safe.specs.Rosters.{Roster}
 use Rattle.py_safe.specs.Constructs.{Room, IsConstant, HasHome, HaveCells, LawfulExpression, LawfulOperands, LawfulLinks, LawfulItems, LawfulEntries, LawfulArguments, LawfulKeywords}
 use Rattle.nu_carries.specs.Frames.{Homes, behind, IsWithin}
-use Rattle.nu_carries.specs.Carries.{Carrier, CarriesExpression, CarriesAll}
+use Rattle.nu_carries.specs.Carries.{CarriesExpression, CarriesAll}
 use Rattle.nu_carries.proofs.Small.{constant_carried, yield_carried}
 use Rattle.nu_homes.specs.Names.{HasPlace}
 use Rattle.nu_homes.specs.Functions.{HasCells, CarriesNamed}
@@ -26,7 +26,6 @@ use Rattle.nu_choices.proofs.Displays.{list_carried, tuple_carried, dict_carried
 use Rattle.nu_choices.proofs.Calls.{call_carried}
 use Rattle.nu_definitions.proofs.Whole.{yield_from_carried}
 use Rattle.carried_codes.specs.Constants.{const_of}
-use Rattle.carried_codes.specs.Parts.{Named}
 use Rattle.carried_codes.specs.Expressions.{name, operate, both, choose, chain, starred, dict, call, function, comprehension, yield_value, delegate}
 use Rattle.carried_codes.specs.Nodes.{value, values, links, items, entries, arguments, keywords}
 use Rattle.carried_codes.specs.Targets.{SameNames}

@@ -1,5 +1,5 @@
 -- Functions, comprehensions and classes, and what is decorated, as code gives them.
-use Rattle.std.proofs.Common.{◌≡◌, ℕ, suc, ◌+◌, ◌≤◌, map, length, pos, List, [], ◌∷◌, refl, sym, ap, ◌∙◌, subst, arith}
+use Rattle.std.proofs.Common.{◌≡◌, ℕ, suc, ◌+◌, map, length, pos, List, [], ◌∷◌, refl, ap, ◌∙◌, subst, arith}
 use Rattle.op_forms.specs.declared.constant.Const.TheVariants as const
 use Rattle.op_forms.specs.declared.op.Op.TheVariants as op
 use Rattle.node_tree.specs.declared.node.Argument.{Argument}
@@ -14,11 +14,10 @@ use Rattle.nu_carries.specs.Carries.{Carrier, CarriesExpression, CarriesAll, joi
 use Rattle.nu_homes.specs.Functions.{HasCells, cell_at, CarriesNamed, put_block, put_end}
 use Rattle.nu_homes.specs.Functions as homes
 use Rattle.nu_homes.proofs.Functions as carried
-use Rattle.nu_definitions.specs.Collected.{comprehension_block}
 use Rattle.nu_definitions.proofs.Collected.{comprehension_carried}
 use Rattle.nu_definitions.specs.Decorated as defined
 use Rattle.carried_codes.specs.Parts.{Named, Decorator}
-use Rattle.carried_codes.specs.Expressions.{puts, function_form, function_block, decorated_at, decorated_block, class_block}
+use Rattle.carried_codes.specs.Expressions.{puts, function_block, decorated_at, decorated_block, class_block}
 use Rattle.carried_codes.specs.Targets.{SameNames, SameLines}
 use Rattle.carried_codes.specs.Nodes.{cells_at}
 

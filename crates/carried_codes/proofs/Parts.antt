@@ -1,12 +1,12 @@
 -- Parts in ranges of temporaries of their own, and blocks that write fewer temporaries than they may.
-use Rattle.std.proofs.Common.{ℕ, ◌<◌, ◌≤◌, inr, Option, arith}
+use Rattle.std.proofs.Common.{ℕ, ◌≤◌, inr, Option, arith}
 use Rattle.node_tree.specs.declared.node.Operand.{Operand}
 use Rattle.node_tree.specs.declared.node.Operand.TheVariants as operand
 use Rattle.node_tree.specs.Blocks as tree
 use Rattle.py_meaning.specs.Syntax as syntax
 use Rattle.py_meaning.specs.Frames as python
 use Rattle.nu_carries.specs.Frames.{Homes, behind, IsWithin, IsOff}
-use Rattle.nu_carries.specs.Carries.{Carrier, CarriesExpression, CarriesRow}
+use Rattle.nu_carries.specs.Carries.{Carrier, CarriesExpression}
 use Rattle.nu_carries.specs.Laws.{Within}
 use Rattle.nu_carries.proofs.Facts.{outside_less}
 use Rattle.nu_homes.specs.Names.{CarriesQuiet}

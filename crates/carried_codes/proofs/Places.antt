@@ -1,6 +1,6 @@
 -- What goes to places is carried as what goes to targets, where the parts of the places carry those of the targets; deletions and
 -- augmented assignments too.
-use Rattle.std.proofs.Common.{◌≡◌, ℕ, ◌+◌, ◌≤◌, inl, List, [], ◌∷◌, Option, refl, ap, ◌∙◌, subst, arith}
+use Rattle.std.proofs.Common.{◌≡◌, ℕ, ◌+◌, ◌≤◌, inl, Option, refl, ap, ◌∙◌, subst, arith}
 use Rattle.op_forms.specs.declared.op.Op.{Op}
 use Rattle.node_tree.specs.declared.node.Operand.{Operand}
 use Rattle.node_tree.specs.declared.node.Operand.TheVariants as operand
@@ -23,7 +23,7 @@ use Rattle.nu_targets.proofs.Assignments.{none_carried, also_carried}
 use Rattle.nu_targets.proofs.Augments as augments
 use Rattle.nu_targets.proofs.Deletions as deletions
 use Rattle.carried_codes.specs.Seats.{Seat, seat, reads, stores, unbinds}
-use Rattle.carried_codes.specs.Places.{Place, Name, Attribute, Index, Each, Starred, Nothing, Places, NoPlace, Also, count, assign_name, assign_attribute, assign_index, assign_each, assign_starred, assign, takes, assign_all, delete_name, delete_attribute, delete_index, delete, delete_all, augment_name, augment_attribute, augment_index, augment}
+use Rattle.carried_codes.specs.Places.{Place, Name, Attribute, Index, Each, Starred, Places, NoPlace, Also, count, assign_name, assign_attribute, assign_index, assign_each, assign_starred, assign, takes, assign_all, delete_name, delete_attribute, delete_index, delete, delete_all, augment_name, augment_attribute, augment_index, augment}
 use Rattle.carried_codes.specs.Targets.{CarriesParts, CarryParts, MayDelete, MayDeleteAll, MayRead}
 use Rattle.carried_codes.proofs.Parts.{part_off, quiet_wider}
 use Rattle.carried_codes.proofs.Seats.{reads_are, stores_are, store_seat, delete_seat}

@@ -1,5 +1,5 @@
 -- Scripts have the runs of their nodes.
-use Rattle.std.proofs.Common.{◌≡◌, ℕ, zero, suc, ◌≤◌, Bool, List, [], ◌∷◌, map, length, Option, Some, None, refl, sym, ap, ◌∙◌, subst, arith}
+use Rattle.std.proofs.Common.{◌≡◌, ℕ, zero, suc, Bool, List, [], ◌∷◌, map, length, Option, Some, None, refl, sym, ap, ◌∙◌, subst, arith}
 use Rattle.std.specs.Prelude.{slice_get}
 use Rattle.nu_run.specs.Runs.{Same}
 use Rattle.nu_value.specs.declared.header.Header.{Header}
@@ -10,18 +10,17 @@ use Rattle.node_tree.specs.declared.script.NodeScript.{NodeScript}
 use Rattle.node_tree.specs.Nodes as nodes
 use Rattle.node_tree.specs.Run as node_run
 use Rattle.node_tree.specs.Tree.{block_of, code_block}
-use Rattle.py_meaning.specs.Frames as python
 use Rattle.py_meaning.specs.Bodies as bodies
 use Rattle.py_meaning.specs.Syntax as syntax
 use Rattle.py_safe.specs.Rosters.{Role, roster_of}
-use Rattle.py_safe.specs.Constructs.{LawfulCode, LawfulCodes}
+use Rattle.py_safe.specs.Constructs.{LawfulCodes}
 use Rattle.nu_carries.specs.Frames.{Homes, HaveRoom, begun}
 use Rattle.nu_carries.specs.Carries.{Setting, source, target, BegunAs, Correspond, BodyEnds, CarriedBy, CarriesCode, CarriesScript}
 use Rattle.nu_carries.proofs.Carry.{none_by}
 use Rattle.nu_carries.proofs.Scripts.{script_same}
 use Rattle.nu_homes.specs.Begun.{HaveHomes}
 use Rattle.nu_homes.proofs.Begins.{begins_alike}
-use Rattle.carried_codes.specs.Nodes.{homes_of, code_nodes}
+use Rattle.carried_codes.specs.Nodes.{homes_of}
 use Rattle.carried_codes.specs.Laws.{IsMadeOf, AreMadeOf}
 use Rattle.carried_codes.proofs.Codes.{houses, code_carried}
 

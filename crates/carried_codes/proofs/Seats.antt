@@ -3,7 +3,6 @@ use Rattle.std.proofs.Common.{◌≡◌, ℕ, ◌+◌, ◌≤◌, refl, subst}
 use Rattle.node_tree.specs.declared.node.Operand.{Operand}
 use Rattle.node_tree.specs.declared.node.Operand.TheVariants as operand
 use Rattle.node_tree.specs.Blocks.{alone}
-use Rattle.node_tree.specs.Blocks as tree
 use Rattle.py_meaning.specs.Syntax as syntax
 use Rattle.nu_carries.specs.Frames.{Homes, HaveRoom, behind}
 use Rattle.nu_carries.specs.Carries.{CarriesExpression, CarriesTarget}

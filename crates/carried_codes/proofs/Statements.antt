@@ -20,7 +20,7 @@ use Rattle.carried_codes.specs.Places.{assign_name}
 use Rattle.carried_codes.specs.Places as places
 use Rattle.carried_codes.specs.Statements.{return_value, raise_value, raise_again, assert_that, branch, while_loop, for_loop, try_finally, with_item}
 use Rattle.carried_codes.specs.Nodes.{value, values, place, all_places, bind, bind_all, decorators, statement, block, except}
-use Rattle.carried_codes.specs.Targets.{CarriesCaughtBody, NameHasPlace, CarryClauses, SameLines}
+use Rattle.carried_codes.specs.Targets.{NameHasPlace, CarryClauses, SameLines}
 use Rattle.carried_codes.specs.Laws.{Houses, Catches}
 use Rattle.carried_codes.proofs.Parts.{part_in, off_before}
 use Rattle.carried_codes.proofs.Functions.{decorating}

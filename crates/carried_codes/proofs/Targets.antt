@@ -1,15 +1,12 @@
 -- The places of lawful targets carry their parts.
-use Rattle.std.proofs.Common.{◌≡◌, ℕ, ◌+◌, ◌≤◌, List, [], ◌∷◌, refl, arith}
-use Rattle.node_tree.specs.declared.node.Operand.{Operand}
+use Rattle.std.proofs.Common.{ℕ, ◌+◌, ◌≤◌, refl, arith}
 use Rattle.node_tree.specs.declared.node.Operand.TheVariants as operand
-use Rattle.node_tree.specs.Blocks as tree
 use Rattle.py_meaning.specs.Syntax as syntax
 use Rattle.py_meaning.specs.Statements.{assign_all}
 use Rattle.py_safe.specs.Rosters.{Roster}
-use Rattle.py_safe.specs.Constructs.{Room, HasHome, LawfulExpression, LawfulTarget, LawfulTargets, IsSingle, LawfulDeletion, LawfulDeletions}
+use Rattle.py_safe.specs.Constructs.{Room, LawfulTarget, LawfulTargets, IsSingle, LawfulDeletion, LawfulDeletions}
 use Rattle.nu_carries.specs.Frames.{Homes, behind}
 use Rattle.nu_carries.specs.Carries.{CarriesTarget, CarriesGiven}
-use Rattle.nu_targets.specs.Places.{CarriesPlaces}
 use Rattle.nu_targets.proofs.Stores.{whole_carried}
 use Rattle.carried_codes.specs.Nodes.{value, place, all_places, bind, bind_all}
 use Rattle.carried_codes.specs.Targets.{CarriesParts, CarryParts, MayDelete, MayDeleteAll, MayRead}

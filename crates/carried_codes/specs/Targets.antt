@@ -9,7 +9,7 @@ use Rattle.nu_homes.specs.Names.{HasPlace}
 use Rattle.nu_choices.specs.Parts.{CarriesPart, CarriesBeside}
 use Rattle.carried_codes.specs.Seats.{seat}
 use Rattle.carried_codes.specs.Nodes.{bound}
-use Rattle.carried_codes.specs.Places.{Place, Name, Attribute, Index, Each, Starred, Nothing, Places, NoPlace, Also}
+use Rattle.carried_codes.specs.Places.{Place, Name, Attribute, Index, Each, Starred, Places, NoPlace, Also}
 use Rattle.carried_codes.specs.Clauses.{Clause, Bare, Class}
 use Rattle.carried_codes.specs.Parts.{Named, Decorator}
 
