@@ -8,10 +8,10 @@ use Rattle.node_tree.specs.Tree.{block}
 use Rattle.node_tree.proofs.Direct.{block_append, append_stop}
 use Rattle.py_meaning.specs.Syntax as syntax
 use Rattle.py_meaning.specs.Frames as python
-use Rattle.nu_carries.specs.Frames.{Homes, behind, IsWithin}
-use Rattle.nu_carries.specs.Carries.{CarriesRow, CarriesExpression, CarriesStatement, CarriesBlock}
-use Rattle.nu_carries.proofs.Facts.{outside_less}
-use Rattle.nu_carries.proofs.Statements.{done_carried, block_carried}
+use Rattle.carries_base.specs.Frames.{Homes, behind, IsWithin}
+use Rattle.carries_base.specs.Carries.{CarriesRow, CarriesExpression, CarriesStatement, CarriesBlock}
+use Rattle.carries_base.proofs.Facts.{outside_less}
+use Rattle.carries_base.proofs.Statements.{done_carried, block_carried}
 
 within_more : (low mid high : ℕ) (o : Operand) → mid ≤ high → IsWithin low mid o → IsWithin low high o
 within_more low mid high (operand.Temp t) le w = let a = w.1 in (w.0, omega arith)

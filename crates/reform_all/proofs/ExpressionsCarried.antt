@@ -30,10 +30,10 @@ use Rattle.node_tree.specs.Tree.{block}
 use Rattle.py_meaning.specs.Syntax as syntax
 use Rattle.py_meaning.specs.Resolved as meaning
 use Rattle.py_meaning.specs.Resolved.{Context, Made, Making, pure, made, and_then}
-use Rattle.nu_carries.specs.Frames.{Homes, behind, IsWithin}
-use Rattle.nu_carries.specs.Carries.{CarriesExpression}
-use Rattle.nu_carries.proofs.Facts.{outside_less}
-use Rattle.nu_carries.proofs.Small.{constant_carried}
+use Rattle.carries_base.specs.Frames.{Homes, behind, IsWithin}
+use Rattle.carries_base.specs.Carries.{CarriesExpression}
+use Rattle.carries_base.proofs.Facts.{outside_less}
+use Rattle.carries_base.proofs.Small.{constant_carried}
 use Rattle.reform_base.specs.declared.Part.{Part}
 use Rattle.reform_expr.specs.Arguments.{arguments}
 use Rattle.reform_expr.specs.Parts.{Range, CarriesEach, totals}

@@ -8,7 +8,7 @@ use Rattle.node_tree.specs.Blocks as tree
 use Rattle.node_tree.specs.Contents.{form_total, total}
 use Rattle.node_tree.specs.Tree.{form, block}
 use Rattle.node_tree.proofs.Direct.{block_append, total_append}
-use Rattle.nu_carries.specs.Carries.{joined}
+use Rattle.carries_base.specs.Carries.{joined}
 use Rattle.reform_base.specs.declared.Part.{Part}
 use Rattle.reform_expr.specs.Parts.{carrier, blocks, totals}
 use Rattle.reform_expr.specs.Arguments.{is_name, argument_of, given}

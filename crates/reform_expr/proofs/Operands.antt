@@ -18,12 +18,12 @@ use Rattle.py_meaning.specs.Syntax as syntax
 use Rattle.py_meaning.specs.Frames as python
 use Rattle.py_meaning.specs.Expressions.{each}
 use Rattle.nu_calls.specs.Calls.{operate}
-use Rattle.nu_carries.specs.Frames.{Homes, behind, Holds, Facts, Fits, IsWithin, IsOff, Outside}
-use Rattle.nu_carries.specs.Carries.{Setting, source, target, Carried, CarriesExpression, CarriesAll, joined}
-use Rattle.nu_carries.proofs.Facts.{Off, outside_off, outside_less, forget}
-use Rattle.nu_carries.proofs.Sequence.{weaken, more_leaves, seq_carried, one_carried}
-use Rattle.nu_carries.proofs.Operations.{operate_carried}
-use Rattle.nu_carries.proofs.Small.{within_off}
+use Rattle.carries_base.specs.Frames.{Homes, behind, Holds, Facts, Fits, IsWithin, IsOff, Outside}
+use Rattle.carries_base.specs.Carries.{Setting, source, target, Carried, CarriesExpression, CarriesAll, joined}
+use Rattle.carries_base.proofs.Facts.{Off, outside_off, outside_less, forget}
+use Rattle.carries_base.proofs.Sequence.{weaken, more_leaves, seq_carried, one_carried}
+use Rattle.carries_base.proofs.Operations.{operate_carried}
+use Rattle.carries_base.proofs.Small.{within_off}
 use Rattle.reform_base.specs.declared.Part.{Part}
 use Rattle.reform_expr.specs.Parts.{Range, Apart, ApartFrom, CarriesEach, carrier, blocks}
 use Rattle.reform_expr.specs.Arguments.{is_name, argument_of, given, arguments}

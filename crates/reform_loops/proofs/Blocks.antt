@@ -12,7 +12,7 @@ use Rattle.node_tree.specs.Blocks as tree
 use Rattle.node_tree.specs.Tree.{form, block}
 use Rattle.node_tree.proofs.Direct.{block_append}
 use Rattle.node_tree.proofs.Forms.{form_if, form_loop}
-use Rattle.nu_carries.specs.Laws.{if_block, turn_block, while_block}
+use Rattle.carries_base.specs.Laws.{if_block, turn_block, while_block}
 
 appended : (x : tree.Block) (f : tree.Form) (y : tree.Block) → tree.append (tree.append x (alone f)) y ≡ tree.append x (tree.Follow f y)
 appended tree.Stop f y = refl

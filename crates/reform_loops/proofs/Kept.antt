@@ -13,7 +13,7 @@ use Rattle.node_tree.specs.Blocks as tree
 use Rattle.node_tree.specs.Contents.{total, form_operations, operations, form_constants, constants, form_yields, yields}
 use Rattle.code_forms.specs.Contents.{operand_constants}
 use Rattle.node_tree.proofs.Direct.{total_append}
-use Rattle.nu_carries.specs.Laws.{if_block, turn_block, while_block}
+use Rattle.carries_base.specs.Laws.{if_block, turn_block, while_block}
 use Rattle.reform_loops.specs.Kept.{asks, flags}
 
 if_total : (count : tree.Form → ℕ) (line t : ℕ) (tb : tree.Block) (o : Operand) (y n : tree.Block) → total count (if_block line t tb o y n) ≡ total count tb + (count (tree.Do t line op.Truth (argument.Value o ∷ [])) + (count (tree.If (operand.Temp t) y n) + (total count y + total count n)))

@@ -10,9 +10,9 @@ ghost use Rattle.node_tree.specs.Contents.{operations, constants, yields};
 ghost use Rattle.code_forms.specs.Contents.{operand_constants};
 ghost use Rattle.node_tree.specs.Tree.{block};
 ghost use Rattle.py_meaning.specs.Syntax as syntax;
-ghost use Rattle.nu_carries.specs.Frames.{Homes, behind};
-ghost use Rattle.nu_carries.specs.Carries.{CarriesExpression, CarriesStatement, CarriesBlock};
-ghost use Rattle.nu_carries.specs.Laws.{Within, if_block};
+ghost use Rattle.carries_base.specs.Frames.{Homes, behind};
+ghost use Rattle.carries_base.specs.Carries.{CarriesExpression, CarriesStatement, CarriesBlock};
+ghost use Rattle.carries_base.specs.Laws.{Within, if_block};
 ghost use Rattle.reform_loops.specs.Kept.{asks};
 
 use node_tree::{Argument, Block, Node, Operand, Temps};

@@ -13,12 +13,12 @@ use Rattle.node_tree.specs.Contents.{form_total, total}
 use Rattle.node_tree.specs.Nodes as nodes
 use Rattle.node_tree.specs.Tree.{form, block}
 use Rattle.py_meaning.specs.Syntax as syntax
-use Rattle.nu_carries.specs.Frames.{Homes, behind, Fact, Holds, Facts}
-use Rattle.nu_carries.specs.Carries.{CarriesExpression, CarriesTarget, CarriesStatement}
-use Rattle.nu_carries.proofs.Facts.{outside_off, outside_less, forget}
-use Rattle.nu_carries.proofs.Sequence.{weaken, more_leaves, seq_carried, then_carried}
-use Rattle.nu_carries.proofs.Operations.{operate_carried}
-use Rattle.nu_carries.proofs.Small.{within_off}
+use Rattle.carries_base.specs.Frames.{Homes, behind, Fact, Holds, Facts}
+use Rattle.carries_base.specs.Carries.{CarriesExpression, CarriesTarget, CarriesStatement}
+use Rattle.carries_base.proofs.Facts.{outside_off, outside_less, forget}
+use Rattle.carries_base.proofs.Sequence.{weaken, more_leaves, seq_carried, then_carried}
+use Rattle.carries_base.proofs.Operations.{operate_carried}
+use Rattle.carries_base.proofs.Small.{within_off}
 use Rattle.reform_expr.specs.declared.home.Home.{Home}
 use Rattle.reform_expr.proofs.Operands.{within_apart}
 use Rattle.reform_unpack.specs.declared.place.Place.{Place}

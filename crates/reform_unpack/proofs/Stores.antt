@@ -10,11 +10,11 @@ use Rattle.py_meaning.specs.Syntax as syntax
 use Rattle.py_meaning.specs.Frames as python
 use Rattle.node_tree.specs.Blocks.{alone}
 use Rattle.node_tree.specs.Blocks as tree
-use Rattle.nu_carries.specs.Frames.{Homes, behind, Fact, Holds, Facts}
-use Rattle.nu_carries.specs.Carries.{CarriesTarget}
-use Rattle.nu_carries.proofs.Facts.{outside_off}
-use Rattle.nu_carries.proofs.Sequence.{weaken, one_carried}
-use Rattle.nu_carries.proofs.Operations.{operate_carried}
+use Rattle.carries_base.specs.Frames.{Homes, behind, Fact, Holds, Facts}
+use Rattle.carries_base.specs.Carries.{CarriesTarget}
+use Rattle.carries_base.proofs.Facts.{outside_off}
+use Rattle.carries_base.proofs.Sequence.{weaken, one_carried}
+use Rattle.carries_base.proofs.Operations.{operate_carried}
 use Rattle.reform_expr.specs.declared.home.Home.{Home}
 use Rattle.reform_expr.specs.declared.home.Home.TheVariants as home
 use Rattle.reform_expr.specs.Homes as homes

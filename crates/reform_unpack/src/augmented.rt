@@ -7,8 +7,8 @@ ghost use Rattle.code_forms.specs.declared.operand.Argument.TheVariants as argum
 ghost use Rattle.code_forms.specs.declared.operand.Operand.TheVariants as operand;
 ghost use Rattle.node_tree.specs.Tree.{block};
 ghost use Rattle.py_meaning.specs.Syntax as syntax;
-ghost use Rattle.nu_carries.specs.Frames.{Homes, behind};
-ghost use Rattle.nu_carries.specs.Carries.{CarriesExpression, CarriesStatement};
+ghost use Rattle.carries_base.specs.Frames.{Homes, behind};
+ghost use Rattle.carries_base.specs.Carries.{CarriesExpression, CarriesStatement};
 ghost use Rattle.reform_unpack.specs.Places.{value_of, target_of, reads, stores};
 
 use crate::assigned::assign;

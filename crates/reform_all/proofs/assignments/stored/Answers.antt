@@ -1,6 +1,6 @@
 use Rattle.std.proofs.Common.{◌+◌, ◌≤◌, ◌∷◌, drop, subst, sym, arith}
 use Rattle.std.proofs.lemmas.List.{drop_all}
-use Rattle.nu_carries.specs.Carries.{CarriesTarget}
+use Rattle.carries_base.specs.Carries.{CarriesTarget}
 use Rattle.node_tree.specs.Tree.{block}
 use Rattle.reform_unpack.specs.Places.{target_of}
 use Rattle.reform_all.proofs.Quiets.{stores_quiet}
