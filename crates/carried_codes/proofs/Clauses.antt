@@ -1,7 +1,7 @@
 -- `try` with `except` clauses, from the clauses' parts and bodies.
 use Rattle.std.proofs.Common.{ℕ, ◌+◌, ◌≤◌, inl, List, [], ◌∷◌, Option, Some, None, subst, arith}
 use Rattle.op_forms.specs.declared.constant.Const.TheVariants as const
-use Rattle.node_tree.specs.declared.node.Operand.TheVariants as operand
+use Rattle.code_forms.specs.declared.operand.Operand.TheVariants as operand
 use Rattle.node_tree.specs.Blocks.{alone}
 use Rattle.node_tree.specs.Blocks as tree
 use Rattle.py_meaning.specs.Syntax as syntax

@@ -7,10 +7,10 @@ use Rattle.op_forms.specs.declared.op.Op.TheVariants as op
 use Rattle.op_forms.specs.declared.signature.ArgumentKind.{ArgumentKind}
 use Rattle.op_forms.specs.Signature as signature
 use Rattle.nu_calls.specs.Calls.{operate}
-use Rattle.node_tree.specs.declared.node.Argument.{Argument}
-use Rattle.node_tree.specs.declared.node.Argument.TheVariants as argument
-use Rattle.node_tree.specs.declared.node.Operand.{Operand}
-use Rattle.node_tree.specs.declared.node.Operand.TheVariants as operand
+use Rattle.code_forms.specs.declared.operand.Argument.{Argument}
+use Rattle.code_forms.specs.declared.operand.Argument.TheVariants as argument
+use Rattle.code_forms.specs.declared.operand.Operand.{Operand}
+use Rattle.code_forms.specs.declared.operand.Operand.TheVariants as operand
 use Rattle.node_tree.specs.Blocks.{alone}
 use Rattle.node_tree.specs.Blocks as tree
 use Rattle.node_tree.specs.Nodes as nodes
@@ -51,7 +51,7 @@ operated h low high line o xs ps args x same is c =
           (operate_carried z h 0 gs line o vs high args above (outside_off h high (high + 1) high gs (omega arith) (omega arith) out₁) (λ c g y. same g ∙ known_values gs ps vs c g know y)))));
     }
 
-argument_same : (g : nodes.Frame) (named : Bool) (v : Operand) → nodes.argument_value g (argument_of named v) ≡ nodes.held g v
+argument_same : (g : nodes.Frame) (named : Bool) (v : Operand) → nodes.argument_value g (argument_of named v) ≡ nodes.operand_value g v
 argument_same g false v = refl
 argument_same g true (operand.Temp t) = refl
 argument_same g true (operand.Const const.None) = refl
@@ -62,14 +62,14 @@ argument_same g true (operand.Const (const.Str s)) = refl
 -- bare names are what their constants are
 given_same : (g : nodes.Frame) (kinds : List ArgumentKind) (ps : List Carrier) → nodes.values g (given kinds (operands ps)) ≡ nodes.values g (arguments ps)
 given_same g kinds [] = refl
-given_same g [] (p ∷ ps) = ap (λ u. nodes.both (nodes.held g p.value) u) (given_same g [] ps)
+given_same g [] (p ∷ ps) = ap (λ u. nodes.both (nodes.operand_value g p.value) u) (given_same g [] ps)
 given_same g (k ∷ kinds) (p ∷ ps) =
     ap (λ u. nodes.both u (nodes.values g (given kinds (operands ps)))) (argument_same g (is_name k) p.value)
-    ∙ ap (λ u. nodes.both (nodes.held g p.value) u) (given_same g kinds ps)
+    ∙ ap (λ u. nodes.both (nodes.operand_value g p.value) u) (given_same g kinds ps)
 
 values_same : (g : nodes.Frame) (ps : List Carrier) → nodes.values g (map argument.Value (operands ps)) ≡ nodes.values g (arguments ps)
 values_same g [] = refl
-values_same g (p ∷ ps) = ap (λ u. nodes.both (nodes.held g p.value) u) (values_same g ps)
+values_same g (p ∷ ps) = ap (λ u. nodes.both (nodes.operand_value g p.value) u) (values_same g ps)
 
 is_op_call : (o : Op) → is_call o ≡ true → o ≡ op.Call
 is_op_call op.Call e = refl
@@ -80,7 +80,7 @@ module _ (h : Homes) (low high line : ℕ) where
   call_does xs [] c = operated h low high line op.Call xs [] [] (tree.Do high line op.Call []) (λ g. refl) (λ l. refl) c
   call_does xs (f ∷ ps) c =
       operated h low high line op.Call xs (f ∷ ps) (argument.Value f.value ∷ map argument.Value (operands ps)) (tree.Call high line f.value (operands ps))
-      (λ g. ap (λ u. nodes.both (nodes.held g f.value) u) (values_same g ps)) (λ l. refl) c
+      (λ g. ap (λ u. nodes.both (nodes.operand_value g f.value) u) (values_same g ps)) (λ l. refl) c
 
   -- by whether it is a call
   does_by : (o : Op) (xs : syntax.Expressions) (ps : List Carrier) (b : Bool) → is_call o ≡ b → CarriesAll h low high xs ps

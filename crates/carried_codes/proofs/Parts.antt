@@ -1,7 +1,7 @@
 -- Parts in ranges of temporaries of their own, and blocks that write fewer temporaries than they may.
 use Rattle.std.proofs.Common.{ℕ, ◌≤◌, inr, Option, arith}
-use Rattle.node_tree.specs.declared.node.Operand.{Operand}
-use Rattle.node_tree.specs.declared.node.Operand.TheVariants as operand
+use Rattle.code_forms.specs.declared.operand.Operand.{Operand}
+use Rattle.code_forms.specs.declared.operand.Operand.TheVariants as operand
 use Rattle.node_tree.specs.Blocks as tree
 use Rattle.py_meaning.specs.Syntax as syntax
 use Rattle.py_meaning.specs.Frames as python

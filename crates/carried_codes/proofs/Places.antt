@@ -2,8 +2,8 @@
 -- augmented assignments too.
 use Rattle.std.proofs.Common.{◌≡◌, ℕ, ◌+◌, ◌≤◌, inl, Option, refl, ap, ◌∙◌, subst, arith}
 use Rattle.op_forms.specs.declared.op.Op.{Op}
-use Rattle.node_tree.specs.declared.node.Operand.{Operand}
-use Rattle.node_tree.specs.declared.node.Operand.TheVariants as operand
+use Rattle.code_forms.specs.declared.operand.Operand.{Operand}
+use Rattle.code_forms.specs.declared.operand.Operand.TheVariants as operand
 use Rattle.node_tree.specs.Blocks.{alone}
 use Rattle.node_tree.specs.Blocks as tree
 use Rattle.py_meaning.specs.Syntax as syntax

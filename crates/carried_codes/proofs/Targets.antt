@@ -1,6 +1,6 @@
 -- The places of lawful targets carry their parts.
 use Rattle.std.proofs.Common.{ℕ, ◌+◌, ◌≤◌, refl, arith}
-use Rattle.node_tree.specs.declared.node.Operand.TheVariants as operand
+use Rattle.code_forms.specs.declared.operand.Operand.TheVariants as operand
 use Rattle.py_meaning.specs.Syntax as syntax
 use Rattle.py_meaning.specs.Statements.{assign_all}
 use Rattle.py_safe.specs.Rosters.{Roster}

@@ -1,7 +1,7 @@
 -- The primitive statements of `try` with `except` clauses, whose parts are evaluated and whose bodies are made (reference, section 8.4).
 use Rattle.std.specs.Prelude.{ℕ, ◌+◌, List, [], ◌∷◌, Option, Some, None}
 use Rattle.op_forms.specs.declared.constant.Const.TheVariants as const
-use Rattle.node_tree.specs.declared.node.Operand.TheVariants as operand
+use Rattle.code_forms.specs.declared.operand.Operand.TheVariants as operand
 use Rattle.node_tree.specs.Blocks.{alone}
 use Rattle.node_tree.specs.Blocks as tree
 use Rattle.carries_base.specs.Carries.{Carrier}

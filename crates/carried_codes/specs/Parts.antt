@@ -1,6 +1,6 @@
 -- What stands for the parts of a construct, with the next temporary.
 use Rattle.std.specs.Prelude.{ℕ, List}
-use Rattle.node_tree.specs.declared.node.Operand.{Operand}
+use Rattle.code_forms.specs.declared.operand.Operand.{Operand}
 use Rattle.node_tree.specs.Blocks as tree
 use Rattle.carries_base.specs.Carries.{Carrier}
 

@@ -2,7 +2,7 @@
 
 ghost use Rattle.std.specs.Prelude.{◌≡◌, [], ◌∷◌, IfOk};
 ghost use Rattle.op_forms.specs.declared.op.Op.TheVariants as operation_named;
-ghost use Rattle.node_tree.specs.declared.node.Argument.TheVariants as argument;
+ghost use Rattle.code_forms.specs.declared.operand.Argument.TheVariants as argument;
 ghost use Rattle.node_tree.specs.Tree.{form, block};
 ghost use Rattle.node_tree.specs.Blocks as tree;
 ghost use Rattle.node_tree.specs.Blocks.{alone, puts as put_form, flag as flag_form};

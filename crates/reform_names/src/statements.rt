@@ -1,7 +1,7 @@
 //! The statements that read, bind and unbind names.
 
 ghost use Rattle.std.specs.Prelude.{◌≡◌, [], ◌∷◌, IfOk};
-ghost use Rattle.node_tree.specs.declared.node.Argument.TheVariants as argument;
+ghost use Rattle.code_forms.specs.declared.operand.Argument.TheVariants as argument;
 ghost use Rattle.node_tree.specs.Blocks.{of_temp};
 ghost use Rattle.node_tree.specs.Blocks as tree;
 ghost use Rattle.node_tree.specs.Tree.{form, block};
