@@ -13,7 +13,7 @@ ghost use Rattle.op_rules.specs.Classes as classes;
 ghost use Rattle.op_rules.specs.Table as spec;
 
 use crate::calls::call_row;
-use crate::named::names_row;
+use crate::named::{names_row, spaces_row};
 use nu_run::StopKind;
 use nu_value::{Heap, Object, Value};
 use op_forms::{Op, OpEnd, World};
@@ -217,12 +217,10 @@ fn done(alloc: Global, op: Op, world: &mut World, args: &[Value]) -> Result<OpEn
         | Op::CellGet
         | Op::CellDel
         | Op::FreeGet
-        | Op::FreeDel
-        | Op::Space
-        | Op::SpaceGet
-        | Op::SpaceSet
-        | Op::SpaceDel
-        | Op::Native => names_row(alloc, op, world, args),
+        | Op::FreeDel => names_row(alloc, op, world, args),
+        Op::Space | Op::SpaceGet | Op::SpaceSet | Op::SpaceDel | Op::Native => spaces_row(
+            alloc, op, world, args,
+        ),
         Op::Tuple | Op::List | Op::Push | Op::Extend | Op::Unpack | Op::UnpackStar => family_row(
             alloc,
             Family::Sequences,
