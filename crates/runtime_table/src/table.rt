@@ -18,6 +18,7 @@ use nu_run::StopKind;
 use nu_value::{Heap, Object, Value};
 use op_forms::{Op, OpEnd, World};
 use op_rules::{Family, rows_keep_sound};
+use rt_dict::apply_dict;
 use rt_int::apply_int;
 use rt_text::apply_text;
 use std::alloc::{AllocError, Global};
@@ -103,7 +104,7 @@ fn family_row(
 {
     match family {
         Family::Classes => class_row(alloc, op, world, args),
-        Family::Dicts => unbuilt(),
+        Family::Dicts => apply_dict(alloc, op, &mut world.heap, &world.codes, args),
         Family::Sequences => unbuilt(),
         Family::Texts => apply_text(alloc, op, &mut world.heap, &world.codes, args),
         Family::Integers => apply_int(alloc, op, &mut world.heap, &world.codes, args),
