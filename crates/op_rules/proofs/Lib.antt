@@ -8,6 +8,11 @@ pub mod Access
 pub mod Sequences
 pub mod Dicts
 pub mod TextCalls
+pub mod Subclasses
+pub mod Specials
+pub mod Attributes
+pub mod Exceptions
+pub mod ClassCalls
 pub mod Classes
 pub mod Rows
 pub mod Keeping
