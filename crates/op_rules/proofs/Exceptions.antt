@@ -44,7 +44,7 @@ module _ (c : Claim) (w : World) (k : Closed c w) where
   -- an `__init__` that is a function is one of which something is claimed
   abbrev InitOf : Init → Type 0
   InitOf (init.Function f) = c.of (value.Obj f) × IsA w.heap f AFunction
-  InitOf other = Unit {0}
+  InitOf i = Unit {0}
 
   plain_init : (b : Bool) → InitOf (if b then init.Plain else init.Other)
   plain_init true = tt

@@ -1,0 +1,4 @@
+mod Chains
+mod Nearest
+mod Order
+mod Copies
