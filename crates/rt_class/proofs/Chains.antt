@@ -1,6 +1,7 @@
 -- Chains of classes, class by class.
-use Rattle.std.proofs.Common.{◌≡◌, ℕ, zero, suc, ◌-◌, ◌<◌, List, Option, Some, None, false, refl, ap, arith}
+use Rattle.std.proofs.Common.{◌≡◌, ℕ, zero, suc, ◌-◌, ◌<◌, ◌≤◌, List, Option, Some, None, Bool, true, false, refl, ap, ◌∙◌, arith}
 use Rattle.std.specs.Prelude.{◌||◌, nat_eq, slice_get}
+use Rattle.std.proofs.lemmas.Bool.Decides.{Decides-eqb}
 use Rattle.nu_value.specs.declared.object.Object.{Object}
 use Rattle.nu_value.specs.Classes.{own_of, base_of, outward, is_among, first_of, first_named}
 use Rattle.nu_value.specs.Names.{value_at}
@@ -24,3 +25,24 @@ among_step (suc room) h n class p = ap (λ k. nat_eq n class || is_among (outwar
 pub among_end : (room : ℕ) (h : List Object) (class : ℕ) → is_among (outward room h None) class ≡ false
 among_end zero h class = refl
 among_end (suc room) h class = refl
+
+pub named_past : (room : ℕ) (h : List Object) (c : Option ℕ) (name : List ℕ) → room ≤ 0 → first_named h (outward room h c) name ≡ None
+named_past zero h c name p = refl
+named_past (suc room) h c name p = absurd (omega (arith, p))
+
+pub among_past : (room : ℕ) (h : List Object) (c : Option ℕ) (class : ℕ) → room ≤ 0 → is_among (outward room h c) class ≡ false
+among_past zero h c class p = refl
+among_past (suc room) h c class p = absurd (omega (arith, p))
+
+not_true : (b : Bool) → (b ≡ true → ⊥) → b ≡ false
+not_true true h = absurd (h refl)
+not_true false h = refl
+
+pub among_here : (room : ℕ) (h : List Object) (n class : ℕ) → 0 < room → n ≡ class → is_among (outward room h (Some n)) class ≡ true
+among_here room h n class p e =
+    among_step room h n class p ∙ ap (λ t. t || is_among (outward (room - 1) h (base_of (slice_get h n))) class) ((Decides-eqb n class).1 e)
+
+pub among_next : (room : ℕ) (h : List Object) (n class : ℕ) → 0 < room → (n ≡ class → ⊥) → is_among (outward room h (Some n)) class ≡ is_among (outward (room - 1) h (base_of (slice_get h n))) class
+among_next room h n class p e =
+    among_step room h n class p
+    ∙ ap (λ t. t || is_among (outward (room - 1) h (base_of (slice_get h n))) class) (not_true (nat_eq n class) (λ t. e ((Decides-eqb n class).0 t)))

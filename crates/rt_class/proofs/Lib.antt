@@ -2,3 +2,4 @@ mod Chains
 mod Nearest
 mod Order
 mod Copies
+mod Asked

@@ -365,6 +365,23 @@ fn method_call(
     }
 }
 
+// No keyword is taken.
+fn plain_call(
+    alloc: Global,
+    heap: &mut Heap,
+    name: &str,
+    receiver: &Value,
+    args: &[Value],
+    names: &[(RcStr, Value)],
+) -> Result<OpEnd, AllocError>
+    ensures { IfOk result (λ e. Did (rows.class_call heap.old name.now receiver.now args.now names.now) heap.old heap.new e) }
+{
+    match names {
+        [] => method_call(alloc, heap, name, receiver, args),
+        _ => Ok(unbuilt()),
+    }
+}
+
 /// Calls the built-in of this name, with its receiver or none: a native on classes, instances or exceptions, or a method of a
 /// generator (library reference, "Built-in Functions"; reference, section 6.2.9.1).
 pub fn call_class(
@@ -377,8 +394,5 @@ pub fn call_class(
 ) -> Result<OpEnd, AllocError>
     ensures { IfOk result (λ e. Did (rows.class_call heap.old name.now receiver.now args.now names.now) heap.old heap.new e) }
 {
-    if names.len() != 0 {
-        return Ok(unbuilt());
-    }
-    method_call(alloc, heap, name, receiver, args)
+    plain_call(alloc, heap, name, receiver, args, names.as_slice())
 }

@@ -40,7 +40,7 @@ fn base_of(heap: &Heap, class: u64) -> Option<u64>
 }
 
 // What a name is on the first class from one outward that has it.
-#[tactic(auto, using(crate::proofs::Chains::named_step, crate::proofs::Chains::named_end))]
+#[tactic(auto, using(crate::proofs::Chains::named_step, crate::proofs::Chains::named_end, crate::proofs::Chains::named_past))]
 fn found_from<'a>(heap: &'a Heap, class: Option<u64>, name: &str) -> Option<&'a Value>
     ensures { option_copied result ≡ classes.first_named heap.now (classes.outward (length heap.now) heap.now class) name.now }
 {
@@ -68,7 +68,7 @@ pub fn found_in<'a>(heap: &'a Heap, class: u64, name: &str) -> Option<&'a Value>
 }
 
 // Whether a class is among those from one outward.
-#[tactic(auto, using(crate::proofs::Chains::among_step, crate::proofs::Chains::among_end))]
+#[tactic(auto, using(crate::proofs::Chains::among_here, crate::proofs::Chains::among_next, crate::proofs::Chains::among_end, crate::proofs::Chains::among_past))]
 fn is_outward(heap: &Heap, from: Option<u64>, class: u64) -> bool
     ensures { result ≡ classes.is_among (classes.outward (length heap.now) heap.now from) class }
 {

@@ -26,7 +26,6 @@ fn is_base(heap: &Heap, base: u64, native: bool) -> bool
     !(native && base != 0 && !is_under(heap, base, BASE_EXCEPTION))
 }
 
-#[tactic(auto, using(crate::proofs::Copies::next_name))]
 fn copied(alloc: Global, list: &[(RcStr, Value)]) -> Result<Names, AllocError>
     requires { AreDistinct list.now }
     ensures { IfOk result (λ names. names ≡ list.now) }
