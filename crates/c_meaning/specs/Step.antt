@@ -22,7 +22,7 @@ use Rattle.code_forms.specs.declared.operand.Argument.{Argument}
 use Rattle.code_forms.specs.declared.operand.Operand.{Operand}
 pub use Rattle.code_forms.specs.Reading.{both}
 use Rattle.code_forms.specs.Reading.{argument_values}
-use Rattle.code_forms.specs.Reading as reading
+use Rattle.code_forms.specs.Reading as forms
 use Rattle.c_meaning.specs.declared.program.Stored.{Stored}
 use Rattle.c_meaning.specs.declared.program.Stored.TheVariants as stored
 use Rattle.c_meaning.specs.declared.program.Statement.{Statement}
@@ -47,7 +47,7 @@ register_value registers r = option_flatten (slice_get registers r)
 
 -- what an operand holds, Unset too, if it has a value
 abbrev pub operand_value : List (Option Value) → Operand → Option Value
-operand_value registers a = reading.operand_value (register_value registers) a
+operand_value registers a = forms.operand_value (register_value registers) a
 
 -- a value that is used: Unset is none
 abbrev pub used : Option Value → Option Value
@@ -55,7 +55,7 @@ used (Some value.Unset) = None
 used other = other
 
 abbrev pub argument_value : List (Option Value) → Argument → Option Value
-argument_value registers a = reading.argument_value (register_value registers) a
+argument_value registers a = forms.argument_value (register_value registers) a
 
 -- the arguments of an operation, if all have a value
 abbrev pub values : List (Option Value) → List Argument → Option (List Value)

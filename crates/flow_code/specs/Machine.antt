@@ -21,7 +21,7 @@ use Rattle.nu_calls.specs.Traceback.{head_text, tail_text}
 use Rattle.code_forms.specs.declared.operand.Argument.{Argument}
 use Rattle.code_forms.specs.declared.operand.Operand.{Operand}
 use Rattle.code_forms.specs.Reading.{argument_values}
-use Rattle.code_forms.specs.Reading as reading
+use Rattle.code_forms.specs.Reading as forms
 use Rattle.flow_code.specs.declared.statement.Statement.{Statement}
 use Rattle.flow_code.specs.declared.statement.Statement.TheVariants as flat
 
@@ -88,7 +88,7 @@ write f to v = record { code = f.code; given = f.given; cells = f.cells; registe
 
 -- what an operand holds, Unset too
 abbrev pub operand_value : Frame → Operand → Option Value
-operand_value f a = reading.operand_value f.registers a
+operand_value f a = forms.operand_value f.registers a
 
 -- the arguments of an operation, if all have a value
 abbrev pub values : Frame → List Argument → Option (List Value)

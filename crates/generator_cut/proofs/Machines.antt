@@ -29,7 +29,7 @@ use Rattle.flow_code.specs.declared.function.FlatFunction.{FlatFunction}
 use Rattle.flow_code.specs.declared.function.FlatScript.{FlatScript}
 use Rattle.code_forms.specs.declared.operand.Argument.{Argument}
 use Rattle.code_forms.specs.declared.operand.Argument.TheVariants as argument
-use Rattle.code_forms.specs.Reading as reading
+use Rattle.code_forms.specs.Reading as forms
 use Rattle.flow_code.specs.declared.statement.Line.{Line}
 use Rattle.code_forms.specs.declared.operand.Operand.{Operand}
 use Rattle.code_forms.specs.declared.operand.Operand.TheVariants as operand
@@ -853,19 +853,19 @@ module _ (rules : Rules) (script : FlatScript) (plan : FlatFunction → Plan) (L
   held_fine a (operand.Temp r) all = a.agrees.live r all.0
   held_fine a (operand.Const c) all = refl
 
-  argument_fine : (a : Spot) (o : Argument) → AllByRecursion (Live a.function a.left) (argument_reads o) → Fine (reading.argument_value (frame_of a).registers o) (c.argument_value a.registers o)
+  argument_fine : (a : Spot) (o : Argument) → AllByRecursion (Live a.function a.left) (argument_reads o) → Fine (forms.argument_value (frame_of a).registers o) (c.argument_value a.registers o)
   argument_fine a (argument.Value o) all = held_fine a o all
   argument_fine a (argument.Name name) all = refl
 
-  both_fine : (x w : Option Value) (xs ws : Option (List Value)) → Fine x w → FineAll xs ws → FineAll (reading.both x xs) (reading.both w ws)
+  both_fine : (x w : Option Value) (xs ws : Option (List Value)) → Fine x w → FineAll xs ws → FineAll (forms.both x xs) (forms.both w ws)
   both_fine None w xs ws f g = tt
   both_fine (Some v) w None ws f g = tt
-  both_fine (Some v) w (Some vs) ws f g = ap (λ w. reading.both w ws) f ∙ ap (reading.both (Some v)) g
+  both_fine (Some v) w (Some vs) ws f g = ap (λ w. forms.both w ws) f ∙ ap (forms.both (Some v)) g
 
   values_fine : (a : Spot) (args : List Argument) → AllByRecursion (Live a.function a.left) (arguments_read args) → FineAll (machine.values (frame_of a) args) (c.values a.registers args)
   values_fine a [] all = refl
   values_fine a (o ∷ args) all =
-      both_fine (reading.argument_value (frame_of a).registers o) (c.argument_value a.registers o) (machine.values (frame_of a) args) (c.values a.registers args)
+      both_fine (forms.argument_value (frame_of a).registers o) (c.argument_value a.registers o) (machine.values (frame_of a) args) (c.values a.registers args)
       (argument_fine a o (all_front _ (argument_reads o) (arguments_read args) all)) (values_fine a args (all_back _ (argument_reads o) (arguments_read args) all))
 
   -- A GENERATOR PAUSES

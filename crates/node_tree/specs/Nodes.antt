@@ -15,7 +15,7 @@ use Rattle.code_forms.specs.declared.operand.Argument.TheVariants as argument
 use Rattle.code_forms.specs.declared.operand.Operand.{Operand}
 pub use Rattle.code_forms.specs.Reading.{both}
 use Rattle.code_forms.specs.Reading.{argument_values}
-use Rattle.code_forms.specs.Reading as reading
+use Rattle.code_forms.specs.Reading as forms
 use Rattle.node_tree.specs.Blocks as tree
 
 -- a frame of a code: what it was handed for its parameters and free cells, and its temporaries, some without a value
@@ -51,7 +51,7 @@ write_row to v = Act (λ s. quiet (writes s to v))
 
 -- what an operand holds, Unset too
 abbrev pub operand_value : Frame → Operand → Option Value
-operand_value f a = reading.operand_value f.temps a
+operand_value f a = forms.operand_value f.temps a
 
 -- a value that is used; nothing is said of Unset, and of what has no value
 abbrev pub used : Option Value → End
@@ -81,7 +81,7 @@ abbrev pub storing : ℕ → R → R
 storing to r = Then r (stored to)
 
 abbrev pub argument_value : Frame → Argument → Option Value
-argument_value f a = reading.argument_value f.temps a
+argument_value f a = forms.argument_value f.temps a
 
 -- the arguments of an operation, if all have a value
 abbrev pub values : Frame → List Argument → Option (List Value)

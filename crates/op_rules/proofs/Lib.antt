@@ -6,6 +6,10 @@ pub mod Plain
 pub mod Asks
 pub mod Access
 pub mod Sequences
+pub mod Removal
+pub mod Keys
+pub mod Views
+pub mod DictMethods
 pub mod Dicts
 pub mod TextCalls
 pub mod Subclasses

@@ -25,8 +25,8 @@ use Rattle.op_rules.specs.declared.family.Family.TheVariants as family
 use Rattle.op_rules.specs.Binding.{bound_end}
 use Rattle.op_rules.specs.Comparisons.{give_bool}
 use Rattle.op_rules.specs.Finish.{is_none, made_after, tuple_after, finishing}
-use Rattle.op_rules.specs.NameRows.{no_local, no_free, value_or, global_row, without_at, set_or, local_row, content, content_of, cellset_row, empties, spaceget_row, spaceset_row, spacedel_row, native_row, names}
-use Rattle.op_rules.specs.Table.{family_row, family_of, family_at_first, family_at_second, truth_of, calling, Group, Names, Making, Mapping, Classing, Operators, Comparing, Testing, Accessing, Containing, Calling, row_of}
+use Rattle.op_rules.specs.NameRows.{no_local, no_free, value_or, global_row, without_at, set_or, local_row, content, content_of, cellset_row, empties, spaceget_row, spaceset_row, spacedel_row, native_row, names, spaces}
+use Rattle.op_rules.specs.Table.{family_row, family_of, family_at_first, family_at_second, truth_of, calling, Group, Names, Spaces, Making, Mapping, Classing, Operators, Comparing, Testing, Accessing, Containing, Calling, row_of}
 use Rattle.op_rules.proofs.Access.{other_right}
 use Rattle.op_rules.proofs.Classes.{class_right, attributes_right}
 use Rattle.op_rules.proofs.Dicts.{dict_right}
@@ -121,12 +121,15 @@ module _ (c : Claim) (w : World) (k : Closed c w) where
   names_right op.CellDel (cell ∷ value.Str name ∷ []) q = emptied_right cell (no_local name) (content_of w.heap cell) (fails c w k 31 _ (lit< tt))
   names_right op.FreeGet (cell ∷ value.Str name ∷ []) q = get_right (no_free name) cell (fails c w k 30 _ (lit< tt))
   names_right op.FreeDel (cell ∷ value.Str name ∷ []) q = emptied_right cell (no_free name) (content_of w.heap cell) (fails c w k 30 _ (lit< tt))
-  names_right op.Space [] q = made_right c w k (object.Space []) (tt, tt, tt)
-  names_right op.SpaceGet (space ∷ value.Str name ∷ []) q = ended c w k (spaceget_row w space name) (value_right _ _ (space_right space name) (global_end name))
-  names_right op.SpaceSet (space ∷ value.Str name ∷ v ∷ []) q = spaceset_right space name v q.1.1.0
-  names_right op.SpaceDel (space ∷ value.Str name ∷ []) q = spacedel_right space name
-  names_right op.Native (value.Str name ∷ []) q = ended c w k (native_row w name) (value_right _ _ (looked_up w.builtins name) tt)
   names_right o args q = idle c w k
+
+  spaces_right : (o : Op) (args : List Value) → Given c o args → Right c w (spaces o w args)
+  spaces_right op.Space [] q = made_right c w k (object.Space []) (tt, tt, tt)
+  spaces_right op.SpaceGet (space ∷ value.Str name ∷ []) q = ended c w k (spaceget_row w space name) (value_right _ _ (space_right space name) (global_end name))
+  spaces_right op.SpaceSet (space ∷ value.Str name ∷ v ∷ []) q = spaceset_right space name v q.1.1.0
+  spaces_right op.SpaceDel (space ∷ value.Str name ∷ []) q = spacedel_right space name
+  spaces_right op.Native (value.Str name ∷ []) q = ended c w k (native_row w name) (value_right _ _ (looked_up w.builtins name) tt)
+  spaces_right o args q = idle c w k
 
   -- ---- families
 
@@ -149,6 +152,7 @@ module _ (c : Claim) (w : World) (k : Closed c w) where
 
   pub row_right : (g : Group) (o : Op) (args : List Value) → Given c o args → Right c w (row_of g o w args)
   row_right Names o args q = names_right o args q
+  row_right Spaces o args q = spaces_right o args q
   row_right Making o args q = sequence_right c w k o args q
   row_right Mapping o args q = dict_right c w k o args q
   row_right Classing o args q = attributes_right c w k o args q

@@ -8,6 +8,9 @@ pub mod NameRows
 pub mod Asking
 pub mod Access
 pub mod Sequences
+pub mod Keys
+pub mod Views
+pub mod DictMethods
 pub mod Dicts
 pub mod TextCalls
 pub mod Subclasses

@@ -117,9 +117,12 @@ names op.CellGet w (cell ∷ value.Str name ∷ []) = ends (cellget_row w.heap c
 names op.CellDel w (cell ∷ value.Str name ∷ []) = celldel_row w.heap cell name
 names op.FreeGet w (cell ∷ value.Str name ∷ []) = ends (freeget_row w.heap cell name)
 names op.FreeDel w (cell ∷ value.Str name ∷ []) = freedel_row w.heap cell name
-names op.Space w [] = space_row w.heap
-names op.SpaceGet w (space ∷ value.Str name ∷ []) = ends (spaceget_row w space name)
-names op.SpaceSet w (space ∷ value.Str name ∷ v ∷ []) = spaceset_row space name v
-names op.SpaceDel w (space ∷ value.Str name ∷ []) = spacedel_row w.heap space name
-names op.Native w (value.Str name ∷ []) = ends (native_row w name)
 names o w args = nothing
+
+abbrev pub spaces : Op → World → List Value → Doing
+spaces op.Space w [] = space_row w.heap
+spaces op.SpaceGet w (space ∷ value.Str name ∷ []) = ends (spaceget_row w space name)
+spaces op.SpaceSet w (space ∷ value.Str name ∷ v ∷ []) = spaceset_row space name v
+spaces op.SpaceDel w (space ∷ value.Str name ∷ []) = spacedel_row w.heap space name
+spaces op.Native w (value.Str name ∷ []) = ends (native_row w name)
+spaces o w args = nothing

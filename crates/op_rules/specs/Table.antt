@@ -11,7 +11,7 @@ use Rattle.op_forms.specs.declared.op.Op.TheVariants as op
 use Rattle.op_forms.specs.declared.world.World.{World}
 use Rattle.op_forms.specs.Answers.{Answer}
 use Rattle.op_forms.specs.Doing.{Doing, nothing, ends, answer}
-use Rattle.op_rules.specs.NameRows.{names}
+use Rattle.op_rules.specs.NameRows.{names, spaces}
 use Rattle.op_rules.specs.Access.{other_row}
 use Rattle.op_rules.specs.Classes.{class_row, attribute_row}
 use Rattle.op_rules.specs.Dicts.{dict_row}
@@ -84,6 +84,7 @@ calling o w args = nothing
 
 pub data Group : Type 0 where
   Names : Group
+  Spaces : Group
   Making : Group
   Mapping : Group
   Classing : Group
@@ -105,11 +106,11 @@ group op.CellGet = Names
 group op.CellDel = Names
 group op.FreeGet = Names
 group op.FreeDel = Names
-group op.Space = Names
-group op.SpaceGet = Names
-group op.SpaceSet = Names
-group op.SpaceDel = Names
-group op.Native = Names
+group op.Space = Spaces
+group op.SpaceGet = Spaces
+group op.SpaceSet = Spaces
+group op.SpaceDel = Spaces
+group op.Native = Spaces
 group op.Tuple = Making
 group op.List = Making
 group op.Push = Making
@@ -172,6 +173,7 @@ group op.CallX = Calling
 -- what an operation does; a row that isn't there yet is the stop Unbuilt
 abbrev pub row_of : Group → Op → World → List Value → Doing
 row_of Names o w args = names o w args
+row_of Spaces o w args = spaces o w args
 row_of Making o w args = sequence_row o w.heap args
 row_of Mapping o w args = dict_row o w.heap args
 row_of Classing o w args = attribute_row o w.codes w.heap args

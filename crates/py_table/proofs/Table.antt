@@ -1,6 +1,6 @@
 -- The table of operations keeps law.
 use Rattle.std.proofs.Common.{◌≡◌, ℕ, zero, suc, ◌<◌, List, [], ◌∷◌, ◌++◌, Option, Some, None, Bool, true, false, refl, ap, subst, length, inl, inr}
-use Rattle.std.specs.Prelude.{ℤ, pos, not, ◌&&◌, if◌then◌else◌, int_lt, nat_lt, slice_get}
+use Rattle.std.specs.Prelude.{ℤ, pos, not, ◌&&◌, if◌then◌else◌, int_lt, nat_lt, Ok, Err, codes, slice_get}
 use Rattle.std.specs.Ordering.{int_eq}
 use Rattle.nu_run.specs.declared.StopKind.TheVariants as stop
 use Rattle.nu_value.specs.declared.header.Header.{Header}
@@ -8,7 +8,15 @@ use Rattle.nu_value.specs.declared.object.Object.{Object}
 use Rattle.nu_value.specs.declared.object.Object.TheVariants as object
 use Rattle.nu_value.specs.declared.value.Value.{Value}
 use Rattle.nu_value.specs.declared.value.Value.TheVariants as value
+use Rattle.nu_value.specs.declared.keyed.KeyEnd.{KeyEnd}
+use Rattle.nu_value.specs.declared.keyed.KeyEnd.TheVariants as end
+use Rattle.nu_value.specs.declared.object.ViewKind.{ViewKind}
+use Rattle.nu_value.specs.declared.object.ViewKind.TheVariants as view_kind
+use Rattle.nu_value.specs.declared.same.Sameness.{Sameness}
+use Rattle.nu_value.specs.declared.same.Sameness.TheVariants as same
+use Rattle.nu_value.specs.Keyed.{Keyed, key}
 use Rattle.nu_value.specs.Natives.{native_classes}
+use Rattle.nu_value.specs.Pairs.{PairList}
 use Rattle.nu_value.specs.Same.{number_of, object_of}
 use Rattle.op_forms.specs.declared.end.After.{After}
 use Rattle.op_forms.specs.declared.end.After.TheVariants as behind
@@ -21,28 +29,35 @@ use Rattle.op_forms.specs.declared.op.Op.TheVariants as op
 use Rattle.op_forms.specs.declared.signature.ArgumentKind.{ArgumentKind}
 use Rattle.op_forms.specs.declared.signature.ArgumentKind.TheVariants as kind
 use Rattle.op_forms.specs.declared.world.World.{World}
-use Rattle.op_forms.specs.Answers.{after}
+use Rattle.op_forms.specs.Answers.{unbuilt, after}
 use Rattle.op_forms.specs.Doing.{Doing, nothing, heap_after, answer}
-use Rattle.op_forms.specs.Fits.{fits}
+use Rattle.op_forms.specs.Fits.{is_in, fits}
 use Rattle.op_forms.specs.Laws.{DoingsKeepSound}
 use Rattle.op_forms.specs.Parts.{OrUnset}
 use Rattle.op_forms.specs.Right.{Claim, Closed, GivenBy, Given, AfterOf, HowOf, EndOf, Uses, Right}
 use Rattle.op_forms.specs.Signature.{arguments}
 use Rattle.op_forms.specs.Sound.{IsIn, AfterIn, HowIn, EndIn, Sound}
 use Rattle.op_forms.proofs.Objects.{parts_by}
+use Rattle.op_rules.specs.declared.family.Family.{Family}
+use Rattle.op_rules.specs.declared.family.Family.TheVariants as family
+use Rattle.op_rules.specs.Access.{other_row}
+use Rattle.op_rules.specs.Asking.{asked, built_in}
 use Rattle.op_rules.specs.Binding.{bound_end}
-use Rattle.op_rules.specs.Comparisons.{give_bool, not_row, truth_row, object_truth, is_row}
+use Rattle.op_rules.specs.Comparisons.{give_bool, same_end, not_row, truth_row, object_truth, is_row}
+use Rattle.op_rules.specs.Dicts.{dict_row}
 use Rattle.op_rules.specs.Finish.{finishing, finished, truth_after, length_after, is_none, made_after, tuple_after}
 use Rattle.op_rules.specs.IntRows.{of_one, of_two}
+use Rattle.op_rules.specs.Keys.{no_key, key_or}
 use Rattle.op_rules.specs.Laws.{FinishingKeepsSound, TheStartIsSound}
 use Rattle.op_rules.specs.Start.{first_objects, start_world}
-use Rattle.op_rules.specs.Table.{group, doing, row}
+use Rattle.op_rules.specs.Table.{family_at_first, family_at_second, family_row, truth_of, group, doing, row}
 use Rattle.op_rules.specs.TableRules.{table_rules}
+use Rattle.op_rules.specs.Views.{pairs_in, key_within, in_view, in_on}
 use Rattle.op_rules.proofs.Keeping.{asking_sound, bound_sound}
 use Rattle.op_rules.proofs.Plain.{plain_right, call_plain}
 use Rattle.op_rules.proofs.Rows.{Asked, row_right, bound_right, finishing_right}
 use Rattle.py_safe.specs.Rosters.{Roster}
-use Rattle.py_safe.specs.Heaps.{Mark, Open, View, view, ACell, nature_of, IsOpen, AllOpen, BodyLaw, KeepsGenerators}
+use Rattle.py_safe.specs.Heaps.{Mark, Open, View, view, ACell, ADict, ASpace, nature_of, IsOpen, AllOpen, BodyLaw, KeepsGenerators}
 use Rattle.py_safe.specs.Rules.{GivesTruth, TruthBehind, EndIsTruth, gives_nature, EndIsOf, EndIsThis, AfterLaw, IsAtOnce, Leaves, Handed, WorldLaw, KeepsLaw}
 use Rattle.py_safe.proofs.Growth.{get_end, grows_trans, is_in_true}
 use Rattle.py_table.proofs.Lawful.{opens, closed_open, news_open, left, Stays, used_stays}
@@ -180,10 +195,63 @@ same_true : (args : List Value) → EndIsTruth (of_two is_row args)
 same_true (a ∷ b ∷ []) = tt
 same_true other = tt
 
+truth_family : (f : Family) (h : List Object) (args : List Value) → EndIsTruth (truth_of f op.Truth h args).end
+truth_family family.Classes h args = one_true (truth_row h) (truth_true h) args
+truth_family f h args = one_true (truth_row h) (truth_true h) args
+
+-- whether a value is among another's items
+
+same_true_end : (s : Sameness) → EndIsTruth (same_end (λ b. b) s)
+same_true_end same.Equal = tt
+same_true_end same.Different = tt
+same_true_end same.Depth = tt
+same_true_end same.Unbuilt = tt
+
+no_key_true : (h : List Object) (v : Value) (e : KeyEnd) → EndIsTruth (no_key h v e)
+no_key_true h v end.Unhashable = tt
+no_key_true h v end.Unbuilt = tt
+no_key_true h v end.Depth = tt
+no_key_true h v end.Memory = tt
+
+keyed_true : (h : List Object) (v : Value) (pairs : PairList) (k : Keyed) → EndIsTruth (key_within pairs (key_or h v k))
+keyed_true h v pairs (Ok k) = tt
+keyed_true h v pairs (Err e) = no_key_true h v e
+
+key_if_true : (b : Bool) (h : List Object) (v : Value) (pairs : PairList) → EndIsTruth (key_within pairs (if b then key_or h v (key h v) else Err unbuilt))
+key_if_true true h v pairs = keyed_true h v pairs (key h v)
+key_if_true false h v pairs = tt
+
+view_true : (h : List Object) (v : Value) (kind : ViewKind) (pairs : PairList) → EndIsTruth (in_view h v kind pairs)
+view_true h v view_kind.Keys pairs = key_if_true (is_in (length h) v) h v pairs
+view_true h v view_kind.Values pairs = same_true_end _
+view_true h v view_kind.Both pairs = tt
+
+in_on_true : (h : List Object) (v : Value) (o : Option Object) → EndIsTruth (in_on h v o)
+in_on_true h v (Some (object.Dict pairs)) = key_if_true (is_in (length h) v) h v pairs
+in_on_true h v (Some (object.View dict kind)) = view_true h v kind (pairs_in (slice_get h dict))
+in_on_true h v o = tt
+
+dicts_true : (h : List Object) (args : List Value) → EndIsTruth (dict_row op.In h args).end
+dicts_true h (v ∷ x ∷ []) = in_on_true h v (object_of h x)
+dicts_true h args = tt
+
+asked_true : (f : Option ℕ) (args : List Value) → EndIsTruth (asked f args [] behind.Truth)
+asked_true None args = tt
+asked_true (Some f) args = tt
+
+others_true : (h : List Object) (args : List Value) → EndIsTruth (other_row op.In h args)
+others_true h (v ∷ x ∷ []) = asked_true (built_in h (codes "_nu_in")) (v ∷ x ∷ [])
+others_true h args = tt
+
+in_true : (f : Family) (h : List Object) (args : List Value) → EndIsTruth (family_row f op.In h args).end
+in_true family.Dicts h args = dicts_true h args
+in_true family.Integers h args = others_true h args
+in_true f h args = tt
+
 doing_true : (o : Op) (w : World) (args : List Value) → GivesTruth o → EndIsTruth (doing o w args).end
-doing_true op.Truth w args g = one_true (truth_row w.heap) (truth_true w.heap) args
+doing_true op.Truth w args g = truth_family (family_at_first w.heap args) w.heap args
 doing_true op.Not w args g = one_true not_row not_true args
-doing_true op.In w args g = tt
+doing_true op.In w args g = in_true (family_at_second w.heap args) w.heap args
 doing_true op.Is w args g = same_true args
 doing_true op.Match w args g = tt
 doing_true other w args g = absurd g
@@ -229,8 +297,18 @@ cell_made : (w : World) (args : List Value) → EndIsOf (row op.Cell w args).hea
 cell_made w [] = ap nature_of (get_end w.heap (object.Cell value.Unset))
 cell_made w (a ∷ vs) = tt
 
+space_made : (w : World) (args : List Value) → EndIsOf (row op.Space w args).heap (Some ASpace) (row op.Space w args).end
+space_made w [] = ap nature_of (get_end w.heap (object.Space []))
+space_made w (a ∷ vs) = tt
+
+dict_made : (w : World) (args : List Value) → EndIsOf (row op.Dict w args).heap (Some ADict) (row op.Dict w args).end
+dict_made w [] = ap nature_of (get_end w.heap (object.Dict []))
+dict_made w (a ∷ vs) = tt
+
 row_makes : (o : Op) (w : World) (args : List Value) → EndIsOf (row o w args).heap (gives_nature o) (row o w args).end
 row_makes op.Cell w args = cell_made w args
+row_makes op.Space w args = space_made w args
+row_makes op.Dict w args = dict_made w args
 row_makes other w args = tt
 
 -- ---- the start: nothing is marked, and no function or generator is there
@@ -313,7 +391,7 @@ table_law sound finishing_sound start = record {
   makes = λ o w args e. row_makes o w args;
   apply = λ c o w marks args l e q.
       row_left sound c w marks l o args e (row_right (opens marks) w (closed_open c w marks l) (group o) o args (handed_given marks o args q));
-  dict = λ w. inr (stop.Unbuilt, refl, refl);
+  dict = λ w. inl (record { end = refl; heap = refl });
   func = λ c w marks code tuple dict cells l e p q r. inr (stop.Unbuilt, refl, refl);
   block = λ c w marks f names b l m p a n.
       let args : List Value = value.Obj f ∷ value.Obj names ∷ [] in

@@ -3,7 +3,7 @@
 ghost use Rattle.std.specs.Prelude.{◌≡◌, IfOk, [], ◌∷◌};
 ghost use Rattle.op_forms.specs.declared.op.Op.TheVariants as op;
 ghost use Rattle.op_forms.specs.Doing.{DidIn};
-ghost use Rattle.op_rules.specs.NameRows.{names};
+ghost use Rattle.op_rules.specs.NameRows.{names, spaces};
 
 use crate::names::{
     cell_row, celldel_row, cellget_row, cellset_row, delglobal_row, freedel_row, freeget_row,
@@ -124,7 +124,7 @@ fn spaceget(
     space: &Value,
     name: &Value,
 ) -> Result<OpEnd, AllocError>
-    ensures { IfOk result (λ e. DidIn (names op.SpaceGet world.old (space.now ∷ name.now ∷ [])) world.old world.new e) }
+    ensures { IfOk result (λ e. DidIn (spaces op.SpaceGet world.old (space.now ∷ name.now ∷ [])) world.old world.new e) }
 {
     match name {
         Value::Str(name) => spaceget_row(alloc, world, space, name.as_str()),
@@ -138,7 +138,7 @@ fn spaceset(
     name: &Value,
     value: &Value,
 ) -> Result<OpEnd, AllocError>
-    ensures { IfOk result (λ e. DidIn (names op.SpaceSet world.old (space.now ∷ name.now ∷ value.now ∷ [])) world.old world.new e) }
+    ensures { IfOk result (λ e. DidIn (spaces op.SpaceSet world.old (space.now ∷ name.now ∷ value.now ∷ [])) world.old world.new e) }
 {
     match name {
         Value::Str(name) => spaceset_row(&mut world.heap, space, name, value),
@@ -152,7 +152,7 @@ fn spacedel(
     space: &Value,
     name: &Value,
 ) -> Result<OpEnd, AllocError>
-    ensures { IfOk result (λ e. DidIn (names op.SpaceDel world.old (space.now ∷ name.now ∷ [])) world.old world.new e) }
+    ensures { IfOk result (λ e. DidIn (spaces op.SpaceDel world.old (space.now ∷ name.now ∷ [])) world.old world.new e) }
 {
     match name {
         Value::Str(name) => spacedel_row(alloc, &mut world.heap, space, name.as_str()),
@@ -161,7 +161,7 @@ fn spacedel(
 }
 
 fn native(world: &mut World, name: &Value) -> Result<OpEnd, AllocError>
-    ensures { IfOk result (λ e. DidIn (names op.Native world.old (name.now ∷ [])) world.old world.new e) }
+    ensures { IfOk result (λ e. DidIn (spaces op.Native world.old (name.now ∷ [])) world.old world.new e) }
 {
     match name {
         Value::Str(name) => native_row(world, name.as_str()),
@@ -169,7 +169,7 @@ fn native(world: &mut World, name: &Value) -> Result<OpEnd, AllocError>
     }
 }
 
-/// The rows on names, cells and spaces.
+/// The rows on names and cells.
 pub fn names_row(
     alloc: Global,
     op: Op,
@@ -189,6 +189,20 @@ pub fn names_row(
         (Op::CellDel, [cell, name]) => celldel(alloc, world, cell, name),
         (Op::FreeGet, [cell, name]) => freeget(alloc, world, cell, name),
         (Op::FreeDel, [cell, name]) => freedel(alloc, world, cell, name),
+        _ => unbuilt(),
+    }
+}
+
+/// The rows on the names of classes while their blocks run, and on built-in names.
+pub fn spaces_row(
+    alloc: Global,
+    op: Op,
+    world: &mut World,
+    args: &[Value],
+) -> Result<OpEnd, AllocError>
+    ensures { IfOk result (λ e. DidIn (spaces op world.old args.now) world.old world.new e) }
+{
+    match (op, args) {
         (Op::Space, []) => space_row(alloc, &mut world.heap),
         (Op::SpaceGet, [space, name]) => spaceget(alloc, world, space, name),
         (Op::SpaceSet, [space, name, value]) => spaceset(world, space, name, value),

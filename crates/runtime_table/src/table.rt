@@ -13,12 +13,13 @@ ghost use Rattle.op_rules.specs.Classes as classes;
 ghost use Rattle.op_rules.specs.Table as spec;
 
 use crate::calls::call_row;
-use crate::named::names_row;
+use crate::named::{names_row, spaces_row};
 use nu_run::StopKind;
 use nu_value::{Heap, Object, Value};
 use op_forms::{Op, OpEnd, World};
 use op_rules::{Family, rows_keep_sound};
 use rt_class::{apply_attribute, apply_class};
+use rt_dict::apply_dict;
 use rt_int::apply_int;
 use rt_text::apply_text;
 use std::alloc::{AllocError, Global};
@@ -101,7 +102,7 @@ fn family_row(
 {
     match family {
         Family::Classes => apply_class(alloc, op, &mut world.heap, &world.codes, args),
-        Family::Dicts => unbuilt(),
+        Family::Dicts => apply_dict(alloc, op, &mut world.heap, &world.codes, args),
         Family::Sequences => unbuilt(),
         Family::Texts => apply_text(alloc, op, &mut world.heap, &world.codes, args),
         Family::Integers => apply_int(alloc, op, &mut world.heap, &world.codes, args),
@@ -215,12 +216,10 @@ fn done(alloc: Global, op: Op, world: &mut World, args: &[Value]) -> Result<OpEn
         | Op::CellGet
         | Op::CellDel
         | Op::FreeGet
-        | Op::FreeDel
-        | Op::Space
-        | Op::SpaceGet
-        | Op::SpaceSet
-        | Op::SpaceDel
-        | Op::Native => names_row(alloc, op, world, args),
+        | Op::FreeDel => names_row(alloc, op, world, args),
+        Op::Space | Op::SpaceGet | Op::SpaceSet | Op::SpaceDel | Op::Native => spaces_row(
+            alloc, op, world, args,
+        ),
         Op::Tuple | Op::List | Op::Push | Op::Extend | Op::Unpack | Op::UnpackStar => family_row(
             alloc,
             Family::Sequences,
