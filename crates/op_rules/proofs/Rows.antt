@@ -28,7 +28,7 @@ use Rattle.op_rules.specs.Finish.{is_none, made_after, tuple_after, finishing}
 use Rattle.op_rules.specs.NameRows.{no_local, no_free, value_or, global_row, without_at, set_or, local_row, content, content_of, cellset_row, empties, spaceget_row, spaceset_row, spacedel_row, native_row, names, spaces}
 use Rattle.op_rules.specs.Table.{family_row, family_of, family_at_first, family_at_second, truth_of, calling, Group, Names, Spaces, Making, Mapping, Classing, Operators, Comparing, Testing, Accessing, Containing, Calling, row_of}
 use Rattle.op_rules.proofs.Access.{other_right}
-use Rattle.op_rules.proofs.Classes.{class_right}
+use Rattle.op_rules.proofs.Classes.{class_right, attributes_right}
 use Rattle.op_rules.proofs.Dicts.{dict_right}
 use Rattle.op_rules.proofs.Sequences.{sequence_right}
 use Rattle.op_rules.proofs.Plain.{plain_right, text_plain, call_plain, truth_after_plain, length_after_plain}
@@ -155,7 +155,7 @@ module _ (c : Claim) (w : World) (k : Closed c w) where
   row_right Spaces o args q = spaces_right o args q
   row_right Making o args q = sequence_right c w k o args q
   row_right Mapping o args q = dict_right c w k o args q
-  row_right Classing o args q = class_right c w k o args q
+  row_right Classing o args q = attributes_right c w k o args q
   row_right Operators o args q = family_right (family_of w.heap args) o args q
   row_right Comparing o args q = other_right c w k o args q
   row_right Testing o args q = truth_right (family_at_first w.heap args) o args q

@@ -13,6 +13,11 @@ pub mod Views
 pub mod DictMethods
 pub mod Dicts
 pub mod TextCalls
+pub mod Subclasses
+pub mod Specials
+pub mod Attributes
+pub mod Exceptions
+pub mod ClassCalls
 pub mod Classes
 pub mod CallRows
 pub mod Binding

@@ -13,7 +13,7 @@ use Rattle.op_forms.specs.Answers.{Answer}
 use Rattle.op_forms.specs.Doing.{Doing, nothing, ends, answer}
 use Rattle.op_rules.specs.NameRows.{names, spaces}
 use Rattle.op_rules.specs.Access.{other_row}
-use Rattle.op_rules.specs.Classes.{class_row}
+use Rattle.op_rules.specs.Classes.{class_row, attribute_row}
 use Rattle.op_rules.specs.Dicts.{dict_row}
 use Rattle.op_rules.specs.Sequences.{sequence_row}
 use Rattle.op_rules.specs.TextRows.{text_row}
@@ -176,7 +176,7 @@ row_of Names o w args = names o w args
 row_of Spaces o w args = spaces o w args
 row_of Making o w args = sequence_row o w.heap args
 row_of Mapping o w args = dict_row o w.heap args
-row_of Classing o w args = class_row o w.heap args
+row_of Classing o w args = attribute_row o w.codes w.heap args
 row_of Operators o w args = by_family o w.heap args
 row_of Comparing o w args = ends (other_row o w.heap args)
 row_of Testing o w args = truth_of (family_at_first w.heap args) o w.heap args

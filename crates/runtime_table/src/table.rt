@@ -18,6 +18,7 @@ use nu_run::StopKind;
 use nu_value::{Heap, Object, Value};
 use op_forms::{Op, OpEnd, World};
 use op_rules::{Family, rows_keep_sound};
+use rt_class::{apply_attribute, apply_class};
 use rt_dict::apply_dict;
 use rt_int::apply_int;
 use rt_text::apply_text;
@@ -82,14 +83,11 @@ fn family_at_second(heap: &Heap, args: &[Value]) -> Family
     }
 }
 
-// What has methods of its own is true, until these are asked.
-fn class_row(alloc: Global, op: Op, world: &mut World, args: &[Value]) -> Result<OpEnd, AllocError>
-    ensures { IfOk result (λ e. DidIn (classes.class_row op world.old.heap args.now) world.old world.new e) }
+// The rows of attributes, classes and exceptions.
+fn classing(alloc: Global, op: Op, world: &mut World, args: &[Value]) -> Result<OpEnd, AllocError>
+    ensures { IfOk result (λ e. DidIn (classes.attribute_row op world.old.codes world.old.heap args.now) world.old world.new e) }
 {
-    match op {
-        Op::Truth => apply_int(alloc, Op::Truth, &mut world.heap, &world.codes, args),
-        _ => unbuilt(),
-    }
+    apply_attribute(alloc, op, &mut world.heap, &world.codes, args)
 }
 
 // The row of a family.
@@ -103,7 +101,7 @@ fn family_row(
     ensures { IfOk result (λ e. DidIn (spec.family_row family op world.old.heap args.now) world.old world.new e) }
 {
     match family {
-        Family::Classes => class_row(alloc, op, world, args),
+        Family::Classes => apply_class(alloc, op, &mut world.heap, &world.codes, args),
         Family::Dicts => apply_dict(alloc, op, &mut world.heap, &world.codes, args),
         Family::Sequences => unbuilt(),
         Family::Texts => apply_text(alloc, op, &mut world.heap, &world.codes, args),
@@ -246,7 +244,7 @@ fn done(alloc: Global, op: Op, world: &mut World, args: &[Value]) -> Result<OpEn
         | Op::Raise
         | Op::Match
         | Op::ClassOf
-        | Op::Trace => family_row(alloc, Family::Classes, op, world, args),
+        | Op::Trace => classing(alloc, op, world, args),
         Op::Eq | Op::Ne | Op::Is | Op::IsNot | Op::Not => comparing(alloc, op, world, args),
         Op::Truth => testing(alloc, op, world, args),
         Op::Index | Op::SetIndex | Op::DelIndex | Op::Slice | Op::Iter | Op::Next => accessing(

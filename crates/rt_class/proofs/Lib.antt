@@ -1,0 +1,5 @@
+mod Chains
+mod Nearest
+mod Order
+mod Copies
+mod Asked
