@@ -7,6 +7,8 @@ pub mod Asks
 pub mod Access
 pub mod Sequences
 pub mod Dicts
+pub mod TextPlain
+pub mod TextAccess
 pub mod TextCalls
 pub mod Classes
 pub mod Rows

@@ -1,0 +1,37 @@
+-- Numbers from digits.
+use Rattle.std.proofs.Common.{◌≡◌, ℕ, zero, suc, ◌+◌, ◌-◌, ◌*◌, ◌^◌, ◌<◌, ◌≤◌, Bool, true, false, cond, List, [], ◌∷◌, refl, ap, ◌∙◌, arith}
+use Rattle.std.proofs.lemmas.Bool.Decides.{nat_tests}
+use Rattle.std.specs.Prelude.{pos, negsuc, neg_ℤ, nat_eq, nat_lt}
+use Rattle.op_rules.specs.declared.arithmetic.Computed.TheVariants as computed
+use Rattle.op_rules.specs.Numbers.{in_range, computed_end}
+use Rattle.op_rules.specs.Numerals.{numeral_value, signed}
+
+either : (x : Bool) (n a b : ℕ) → n ≤ a → n ≤ b → n ≤ cond x a b
+either true n a b p q = p
+either false n a b p q = q
+
+pub value_grows : (n : ℕ) (bs : List ℕ) → n ≤ numeral_value n bs
+value_grows n [] = omega arith
+value_grows n (b ∷ bs) =
+    let more = value_grows (n * 10 + (b - 48)) bs in
+    either (nat_eq b 95) n (numeral_value n bs) (numeral_value (n * 10 + (b - 48)) bs) (value_grows n bs) (omega (arith, more))
+
+-- ---- signs
+
+yes : (n : ℕ) → n < 2 ^ 127 → nat_lt n (2 ^ 127) ≡ true
+yes n h = grind (arith, nat_tests)
+
+no : (n : ℕ) → 2 ^ 127 ≤ n → nat_lt n (2 ^ 127) ≡ false
+no n h = grind (arith, nat_tests)
+
+pub small : (negative : Bool) (n : ℕ) → n < 2 ^ 127 → in_range (signed negative n) ≡ computed.Int (signed negative n)
+small false n h = ap (λ x. cond x (computed.Int (pos n)) computed.TooLarge) (yes n h)
+small true zero h = refl
+small true (suc n) h = ap (λ x. cond x (computed.Int (negsuc n)) computed.TooLarge) (yes n (omega (arith, h)))
+
+pub large : (n : ℕ) → 2 ^ 127 ≤ n → in_range (signed false n) ≡ computed.TooLarge
+large n h = ap (λ x. cond x (computed.Int (pos n)) computed.TooLarge) (no n h)
+
+pub larger : (n : ℕ) → 2 ^ 127 < n → in_range (signed true n) ≡ computed.TooLarge
+larger zero h = absurd (omega (arith, h))
+larger (suc n) h = ap (λ x. cond x (computed.Int (negsuc n)) computed.TooLarge) (no n (omega (arith, h)))
