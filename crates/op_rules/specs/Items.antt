@@ -1,5 +1,5 @@
 -- The items of lists, tuples and ranges (reference, section 6.3.2, and library reference, "Common Sequence Operations").
-use Rattle.std.specs.Prelude.{ℕ, ◌+◌, ◌-◌, ℤ, pos, negsuc, ◌+ℤ◌, ◌*ℤ◌, List, [], ◌∷◌, ◌++◌, Option, Some, None, codes, if◌then◌else◌, nat_lt, nat_le, length, slice_get, slice_set, remove}
+use Rattle.std.specs.Prelude.{ℕ, ◌+◌, ◌-◌, ◌^◌, ℤ, pos, negsuc, ◌+ℤ◌, ◌*ℤ◌, List, [], ◌∷◌, ◌++◌, Option, Some, None, codes, if◌then◌else◌, nat_lt, nat_le, length, slice_get, slice_set, remove}
 use Rattle.nu_run.specs.declared.StopKind.TheVariants as stop
 use Rattle.nu_value.specs.declared.object.Object.{Object}
 use Rattle.nu_value.specs.declared.object.Object.TheVariants as object
@@ -9,11 +9,9 @@ use Rattle.nu_value.specs.Ranges.{range_count}
 use Rattle.nu_value.specs.Same.{number_of, object_of}
 use Rattle.op_forms.specs.declared.end.OpEnd.{OpEnd}
 use Rattle.op_forms.specs.declared.end.OpEnd.TheVariants as opend
-use Rattle.op_forms.specs.Answers.{unbuilt}
 use Rattle.op_forms.specs.Doing.{Fill, Doing, nothing, ends, changes, makes}
 use Rattle.op_rules.specs.Access.{not_subscriptable, no_item_changes}
 use Rattle.op_rules.specs.Kinds.{kind_name, raised, type_error}
-use Rattle.op_rules.specs.Numbers.{in_range, computed_end}
 use Rattle.op_rules.specs.NameRows.{value_or}
 use Rattle.op_rules.specs.TextRows.{size_limit}
 
@@ -130,11 +128,17 @@ delindex_row h x i = ends (no_item_changes h x)
 abbrev pub no_len : List Object → Value → OpEnd
 no_len h x = type_error (codes "object of type '" ++ kind_name h x ++ codes "' has no len()")
 
--- a range may have more numbers than there are integers
+abbrev pub give_count : ℕ → OpEnd
+give_count count = opend.Give (value.Int (pos count))
+
+-- a range may have more numbers than the largest integer says
+abbrev pub count_end : ℕ → OpEnd
+count_end count = if nat_lt count (2 ^ 127) then give_count count else opend.Stop stop.Int
+
 abbrev pub len_on : List Object → Value → Option Object → OpEnd
-len_on h x (Some (object.List items)) = opend.Give (value.Int (pos (length items)))
-len_on h x (Some (object.Tuple items)) = opend.Give (value.Int (pos (length items)))
-len_on h x (Some (object.Range start stop step)) = computed_end (in_range (pos (range_count start stop step)))
+len_on h x (Some (object.List items)) = give_count (length items)
+len_on h x (Some (object.Tuple items)) = give_count (length items)
+len_on h x (Some (object.Range start stop step)) = count_end (range_count start stop step)
 len_on h x other = no_len h x
 
 abbrev pub len_row : List Object → Value → OpEnd

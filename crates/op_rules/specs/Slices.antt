@@ -52,10 +52,13 @@ abbrev pub item_from : List Value → ℤ → Option Value
 item_from items (pos i) = slice_get items i
 item_from items (negsuc i) = None
 
+abbrev pub item_list : List Value → ℤ → List Value
+item_list items place = option_to_list (item_from items place)
+
 -- so many items, from a place on in steps
 abbrev pub picked : List Value → ℤ → ℤ → ℕ → List Value
 picked items place step zero = []
-picked items place step (suc n) = option_to_list (item_from items place) ++ picked items (place +ℤ step) step n
+picked items place step (suc n) = item_list items place ++ picked items (place +ℤ step) step n
 
 -- the items at the numbers of a range of places
 abbrev pub between : List Value → ℤ → ℤ → ℤ → List Value
@@ -80,12 +83,18 @@ no_step = value_error (codes "slice step cannot be zero")
 abbrev pub are_bounds : Value → Value → Value → Bool
 are_bounds start stop step = is_bound start && (is_bound stop && is_bound step)
 
--- an object of the items of a slice, whose bounds are looked at before its step
+-- why bounds are none, if they aren't: each is looked at before the step is compared with zero
+abbrev pub refused : Value → Value → Value → Option OpEnd
+refused start stop step =
+    if are_bounds start stop step then (if int_eq (step_of (number_of step)) (pos 0) then Some no_step else None) else Some no_bound
+
+abbrev pub slice_or : List Object → (List Value → Object) → List Value → Value → Value → Value → Option OpEnd → Doing
+slice_or h kind items start stop step (Some e) = ends e
+slice_or h kind items start stop step None = makes h (kind (sliced items (number_of start) (number_of stop) (step_of (number_of step))))
+
+-- an object of the items of a slice
 abbrev pub slice_of : List Object → (List Value → Object) → List Value → Value → Value → Value → Doing
-slice_of h kind items start stop step =
-    if are_bounds start stop step
-    then (if int_eq (step_of (number_of step)) (pos 0) then ends no_step else makes h (kind (sliced items (number_of start) (number_of stop) (step_of (number_of step)))))
-    else ends no_bound
+slice_of h kind items start stop step = slice_or h kind items start stop step (refused start stop step)
 
 -- a slice of a range is left out
 abbrev pub slice_on : List Object → Value → Value → Value → Value → Option Object → Doing

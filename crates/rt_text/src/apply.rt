@@ -10,12 +10,12 @@ ghost use Rattle.op_rules.specs.Kinds as kinds;
 ghost use Rattle.op_forms.specs.Signs as signs;
 ghost use Rattle.op_rules.specs.TextRows as spec;
 
-use crate::items::{in_text, no_item_changes, no_iterator, text_index, text_iterator, text_slice};
+use crate::items::{in_text, text_index, text_iterator, text_slice};
 use crate::rows::{text_operation, text_order};
 use nu_run::StopKind;
 use nu_value::{Codes, Heap, Value};
 use op_forms::{Op, OpEnd};
-use op_rules::no_operand;
+use op_rules::{no_item_changes, no_iterator, no_operand};
 use std::alloc::{AllocError, Global};
 
 fn pair(alloc: Global, op: Op, heap: &Heap, args: &[Value]) -> Result<OpEnd, AllocError>

@@ -6,10 +6,8 @@ ghost use Rattle.nu_text.specs.Characters as lengths;
 ghost use Rattle.nu_value.specs.declared.value.Value.TheVariants as value;
 ghost use Rattle.nu_value.specs.Same.{number_of};
 ghost use Rattle.op_forms.specs.Doing.{Did};
-ghost use Rattle.op_rules.specs.Access as access;
 ghost use Rattle.op_rules.specs.Items as items;
 ghost use Rattle.op_forms.specs.declared.end.OpEnd.TheVariants as opend;
-ghost use Rattle.op_rules.specs.Kinds as kinds;
 ghost use Rattle.op_rules.specs.NameRows as names;
 ghost use Rattle.std.specs.Option.{option_to_list};
 ghost use Rattle.op_rules.specs.Slices as slices;
@@ -22,7 +20,7 @@ use crate::rows::give_text;
 use nu_text::RcStr;
 use nu_value::{Heap, Object, Value, range_len};
 use op_forms::OpEnd;
-use op_rules::{kind_name, raised};
+use op_rules::raised;
 use std::alloc::{AllocError, Global};
 
 const INDEX_ERROR: u64 = 28;
@@ -306,27 +304,4 @@ pub fn text_iterator(alloc: Global, heap: &mut Heap, text: &RcStr) -> Result<OpE
     let text = Value::Str(text.share()?);
     let number = heap.make(Object::iterator(alloc, text, 0)?)?;
     Ok(OpEnd::Give(Value::Obj(number)))
-}
-
-fn about(alloc: Global, heap: &Heap, value: &Value, trouble: &str) -> Result<OpEnd, AllocError>
-    ensures { IfOk result (λ e. e ≡ kinds.type_error (codes "'" ++ kinds.kind_name heap.now value.now ++ trouble.now)) }
-{
-    let mut text = String::from_str(alloc, "'")?;
-    text.push_str(kind_name(heap, value))?;
-    text.push_str(trouble)?;
-    raised(alloc, TYPE_ERROR, text.as_str())
-}
-
-/// The error of a value whose items can't be changed.
-pub fn no_item_changes(alloc: Global, heap: &Heap, value: &Value) -> Result<OpEnd, AllocError>
-    ensures { IfOk result (λ e. e ≡ access.no_item_changes heap.now value.now) }
-{
-    about(alloc, heap, value, "' object does not support item changes")
-}
-
-/// The error of a value that is no iterator.
-pub fn no_iterator(alloc: Global, heap: &Heap, value: &Value) -> Result<OpEnd, AllocError>
-    ensures { IfOk result (λ e. e ≡ access.no_iterator heap.now value.now) }
-{
-    about(alloc, heap, value, "' object is not an iterator")
 }
