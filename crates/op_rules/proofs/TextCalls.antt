@@ -17,7 +17,7 @@ use Rattle.op_rules.specs.TextCalls.{called_on, text_call}
 use Rattle.op_rules.specs.TextMethods.{with_affix, with_text, join_on, join_method, text_list, split_words, split_at, split_by, startswith_text, endswith_text, find_text, count_text, method_of_one, text_method}
 use Rattle.op_rules.specs.TextParts.{pieces, text_values, is_ascii, words}
 use Rattle.op_rules.specs.TextRows.{size_limit}
-use Rattle.op_rules.proofs.Asking.{asks_right}
+use Rattle.op_rules.proofs.Asks.{asks_right}
 use Rattle.op_rules.proofs.Plain.{plain_end, plain_right}
 use Rattle.op_rules.proofs.TextPlain.{with_text_plain, affix_plain, joined_plain, none_plain, two_texts_plain, native_plain}
 use Rattle.op_rules.proofs.Usual.{ended, failed, idle, made_right, if_right, if_end}
