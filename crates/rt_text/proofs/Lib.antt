@@ -3,7 +3,7 @@ mod Copies
 mod Encoded
 mod Ordered
 mod Cuts
-mod Parts
+mod Places
 mod Sizes
 mod Ascii
 mod Blanks
