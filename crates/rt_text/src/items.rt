@@ -189,6 +189,7 @@ fn push_from(all: &mut String, characters: &[char], place: i128) -> Result<(), A
 }
 
 // So many characters, from a place on in steps.
+#[tactic(auto, using(crate::proofs::Picked::picked_next, crate::proofs::Picked::picked_past))]
 fn picked(
     alloc: Global,
     characters: &[char],

@@ -166,7 +166,7 @@ fn give_between(alloc: Global, front: &str, name: &str, back: &str) -> Result<Op
 }
 
 fn give_scope(alloc: Global, kind: &str, header: Option<&Header>) -> Result<OpEnd, AllocError>
-    ensures { IfOk result (λ e. e ≡ spec.shown_end (spec.scope_text kind.now (option_copied header))) }
+    ensures { IfOk result (λ e. e ≡ spec.shown_end (spec.scope_text kind.now (option_copied header.entry))) }
 {
     match header {
         Some(header) => give_between(alloc, kind, header.scope.as_str(), ">"),
@@ -203,7 +203,7 @@ fn show_object(
     heap: &Heap,
     object: Option<&Object>,
 ) -> Result<OpEnd, AllocError>
-    ensures { IfOk result (λ e. e ≡ spec.shown_end (spec.object_text codes.now heap.now (option_copied object))) }
+    ensures { IfOk result (λ e. e ≡ spec.shown_end (spec.object_text codes.now heap.now (option_copied object.entry))) }
 {
     match object {
         Some(Object::Range { start, stop, step }) => give_range(
