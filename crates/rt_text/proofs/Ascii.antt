@@ -2,11 +2,12 @@
 use Rattle.std.proofs.Common.{◌≡◌, ℕ, zero, suc, ◌+◌, ◌<◌, ◌≤◌, Bool, true, false, cond, List, [], ◌∷◌, ◌++◌, length, refl, sym, ap, ◌∙◌, arith}
 use Rattle.std.proofs.lemmas.Bool.Decides.{nat_tests}
 use Rattle.std.proofs.lemmas.List.{length-append}
-use Rattle.std.proofs.lemmas.Str.{chars_from_encodes, length-le-encodes}
-use Rattle.std.specs.Prelude.{nat_lt, ◌&&◌, slice_index, MatchBool, IsUtf8, IsAscii, encode_utf8_all}
+use Rattle.std.proofs.lemmas.Str.{chars-nil, chars_from_encodes, length-le-encodes}
+use Rattle.std.specs.Prelude.{nat_lt, ◌==◌, ◌&&◌, slice_index, MatchBool, IsUtf8, IsAscii, encode_utf8_all}
 use Rattle.std.specs.Str.{IsNotAscii, chars}
 use Rattle.std.specs.Char.{encode_utf8}
 use Rattle.nu_text.specs.Characters.{characters}
+use Rattle.op_rules.specs.Numerals.{number_of_one, no_character}
 use Rattle.op_rules.specs.TextParts.{is_ascii}
 use Rattle.rt_text.proofs.Encoded.{next, Size, One, Two, Three, Four, size_of, one_byte, two_bytes, three_bytes, four_bytes, all_counted}
 
@@ -38,6 +39,19 @@ ascii_test false bs h = sym (ascii_not bs h.0 h.1)
 pub ascii_true : (r : Bool) (bs : List ℕ) → MatchBool r (IsAscii bs) (IsNotAscii bs) → r ≡ true → IsAscii bs
 ascii_true true bs h e = h
 ascii_true false bs h e = absurd (cc)
+
+-- ---- an empty text, and another
+
+pub no_chars : (text : List ℕ) → text ≡ [] → chars text ≡ []
+no_chars text e = ap chars e ∙ chars-nil
+
+pub empty_chars : (text : List ℕ) → (length text == 0) ≡ true → chars text ≡ []
+empty_chars [] h = chars-nil
+empty_chars (b ∷ bs) h = absurd (grind (arith, nat_tests))
+
+pub two_chars : (c : ℕ) (text cs : List ℕ) → encode_utf8_all cs ≡ text → (length text == 0) ≡ false → number_of_one (c ∷ cs) ≡ no_character
+two_chars c text [] e h = let same : (length {A = ℕ} [] == 0) ≡ false = ap (λ l. length l == 0) e ∙ h in absurd (cc)
+two_chars c text (d ∷ ds) e h = refl
 
 -- ---- a text with as many bytes as characters
 

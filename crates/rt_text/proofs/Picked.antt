@@ -1,5 +1,5 @@
 -- Characters at places in steps, and none outside the text.
-use Rattle.std.proofs.Common.{◌≡◌, ℕ, zero, suc, ◌-◌, ◌<◌, ◌≤◌, ◌^◌, ◌⊎◌, inl, inr, ℤ, pos, negsuc, ◌+ℤ◌, Bool, true, false, List, [], ◌∷◌, ◌++◌, length, FitsSigned, refl, sym, ap, ◌∙◌, arith}
+use Rattle.std.proofs.Common.{◌≡◌, ℕ, zero, suc, ◌-◌, ◌<◌, ◌≤◌, ◌^◌, ◌⊎◌, inl, inr, ℤ, pos, negsuc, ◌+ℤ◌, Bool, true, false, List, [], ◌∷◌, ◌++◌, length, FitsSigned, refl, sym, ap, ◌∙◌, arith, append_assoc}
 use Rattle.std.specs.Int.{w128}
 use Rattle.std.specs.Prelude.{int_lt, encode_utf8_all}
 use Rattle.std.specs.Option.{option_to_list}
@@ -83,3 +83,14 @@ picked_past_end cs place step n l f g h =
 
 pub picked_past : (cs : List ℕ) (place step : ℤ) (n : ℕ) → length cs < 2 ^ 64 → FitsSigned w128 place → FitsSigned w128 step → (FitsSigned w128 (place +ℤ step) → ⊥) → encode_utf8_all (picked cs (place +ℤ step) step n) ≡ []
 picked_past cs place step n l f g h = ap encode_utf8_all (picked_past_end cs place step n l f g h)
+
+-- one character pushed
+pub one_pushed : (all now cs whole : List ℕ) (place step next : ℤ) (left : ℕ) → 0 < left → next ≡ place +ℤ step
+    → now ≡ all ++ encode_utf8_all (option_to_list (character_from cs place))
+    → all ++ encode_utf8_all (picked cs place step left) ≡ whole → now ++ encode_utf8_all (picked cs next step (left - 1)) ≡ whole
+one_pushed all now cs whole place step next left h is pushed before =
+    ap (λ l. l ++ encode_utf8_all (picked cs next step (left - 1))) pushed
+    ∙ append_assoc all (encode_utf8_all (option_to_list (character_from cs place))) (encode_utf8_all (picked cs next step (left - 1)))
+    ∙ ap (λ z. all ++ (encode_utf8_all (option_to_list (character_from cs place)) ++ encode_utf8_all (picked cs z step (left - 1)))) is
+    ∙ ap (λ l. all ++ l) (sym (picked_next cs place step left h))
+    ∙ before

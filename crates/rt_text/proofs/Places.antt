@@ -1,6 +1,7 @@
 -- What stands in a text, how often and where, from its first cut.
 use Rattle.std.proofs.Common.{◌≡◌, ℕ, zero, suc, ◌+◌, ◌-◌, ◌<◌, Bool, true, false, List, [], ◌∷◌, ◌++◌, length, refl, sym, ap, ◌∙◌, arith, map}
-use Rattle.std.specs.Prelude.{pos, negsuc, ◌==◌, encode_utf8, IsUtf8}
+use Rattle.std.specs.Prelude.{pos, negsuc, ◌==◌, encode_utf8, IsUtf8, Option, Some, None}
+use Rattle.std.specs.Option.{is_some}
 use Rattle.std.specs.Str.{chars}
 use Rattle.std.proofs.lemmas.List.{length-append}
 use Rattle.std.proofs.lemmas.Str.{encodes-chars}
@@ -8,8 +9,9 @@ use Rattle.nu_text.specs.Characters.{characters}
 use Rattle.op_rules.specs.TextParts.{pieces_from, single_pieces, pieces}
 use Rattle.op_rules.specs.TextAccess.{has_cut, stands_in}
 use Rattle.op_rules.specs.TextMethods.{found_at}
-use Rattle.rt_text.proofs.Cuts.{cons_of, single_cons, pieces_empty, pieces_other}
+use Rattle.rt_text.proofs.Cuts.{CutAt, cons_of, single_cons, pieces_empty, pieces_other}
 use Rattle.rt_text.proofs.Encoded.{all_counted}
+use denote.Ref.{Bor}
 
 -- ---- an empty part
 
@@ -22,7 +24,7 @@ found_empty part text e = ap found_at (pieces_empty part text e ∙ (single_cons
 pub chars_counted : (text : List ℕ) → IsUtf8 text → length (chars text) ≡ characters text
 chars_counted text u = sym (all_counted (chars text)) ∙ ap characters (encodes-chars text u)
 
-mapped : (cs : List ℕ) → length (map encode_utf8 cs ++ [] ∷ []) ≡ length cs + 1
+mapped : (cs : List ℕ) → length (map encode_utf8 cs ++ [] ∷ []) ≡ suc (length cs)
 mapped [] = refl
 mapped (c ∷ cs) = ap suc (mapped cs)
 
@@ -34,6 +36,10 @@ count_empty part text u e =
     omega (arith, single, all, counted)
 
 -- ---- another part
+
+pub stands_by : (part text : List ℕ) (r : Option (Bor (List ℕ) × Bor (List ℕ))) → (length part == 0) ≡ false → CutAt part text r → is_some r ≡ stands_in part text
+stands_by part text None e cut = sym (ap has_cut (pieces_other part text e ∙ cut))
+stands_by part text (Some x) e cut = sym (ap has_cut (pieces_other part text e ∙ cut ∙ ap (λ l. x.0.now ∷ l) (cons_of part 0 [] x.1.now).2))
 
 pub stands_not : (part text : List ℕ) → (length part == 0) ≡ false → pieces_from part 0 [] text ≡ text ∷ [] → stands_in part text ≡ false
 stands_not part text e none = ap has_cut (pieces_other part text e ∙ none)

@@ -18,6 +18,14 @@ mark_small : (mark : ℕ) → IsMark mark → mark < 128
 mark_small mark (inl e) = omega (arith, e)
 mark_small mark (inr e) = omega (arith, e)
 
+-- a backslash and a mark stand behind a backslash
+pub escaped_backslash : (mark c : ℕ) → c ≡ 92 → quoted_char mark c ≡ 92 ∷ encode_utf8 c
+escaped_backslash mark c e = rw (e, one_byte 92 (omega arith)) refl
+
+pub escaped_mark : (mark c : ℕ) → IsMark mark → c ≡ mark → quoted_char mark c ≡ 92 ∷ encode_utf8 c
+escaped_mark mark c (inl m) e = rw (e, m, one_byte 39 (omega arith)) refl
+escaped_mark mark c (inr m) e = rw (e, m, one_byte 34 (omega arith)) refl
+
 -- a byte past ASCII stands as itself
 plain_byte : (mark b : ℕ) → IsMark mark → 128 ≤ b → quoted_byte mark b ≡ b ∷ []
 plain_byte mark b m h =

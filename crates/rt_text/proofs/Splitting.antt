@@ -15,10 +15,10 @@ use Rattle.rt_text.specs.Laws.{IsFirstPlace}
 use Rattle.rt_text.proofs.Cuts.{IsCons, cons_of, start_of, starts, at_start, pieces_other}
 
 -- a text in front of others, joined
-joined_cons : (part first : List ℕ) (more : List (List ℕ)) → IsCons more → joined part (text_values (first ∷ more)) ≡ first ++ part ++ joined part (text_values more)
+joined_cons : (part first : List ℕ) (more : List (List ℕ)) → IsCons more → joined part (text_values (first ∷ more)) ≡ first ++ (part ++ joined part (text_values more))
 joined_cons part first more p =
     ap (λ l. joined part (text_values (first ∷ l))) p.2 ∙ ap (λ l. first ++ l) (append_assoc part p.0 (flat_map (λ v. part ++ text_in v) (text_values p.1)))
-    ∙ ap (λ l. first ++ part ++ joined part (text_values l)) (sym p.2)
+    ∙ ap (λ l. first ++ (part ++ joined part (text_values l))) (sym p.2)
 
 behind : (part : List ℕ) (b : ℕ) (bs : List ℕ) → 0 < length part → drop (length part - 1) bs ≡ drop (length part) (b ∷ bs)
 behind [] b bs h = absurd (omega (arith, h))
@@ -30,7 +30,7 @@ joins_step : (part piece : List ℕ) (b : ℕ) (bs : List ℕ) → 0 < length pa
     → joined part (text_values (cond x (piece ∷ pieces_from part (length part - 1) [] bs) (pieces_from part 0 (piece ++ b ∷ []) bs))) ≡ piece ++ b ∷ bs
 joins_step part piece b bs h true e there more =
     joined_cons part piece (pieces_from part (length part - 1) [] bs) (cons_of part (length part - 1) [] bs)
-    ∙ ap (λ l. piece ++ part ++ l) (there ∙ behind part b bs h)
+    ∙ ap (λ l. piece ++ (part ++ l)) (there ∙ behind part b bs h)
     ∙ ap (λ l. piece ++ l) (sym (start_of part (b ∷ bs) e))
 joins_step part piece b bs h false e there more = more ∙ append_assoc piece (b ∷ []) bs
 

@@ -168,10 +168,11 @@ fn find_method(alloc: Global, text: &str, name: &str, value: &Value) -> Result<O
 fn part_count(text: &RcStr, part: &str) -> i128
     ensures { result ≡ pos (length (parts.pieces part.now text.now) - 1) }
 {
+    let all = text.as_str();
     if part.is_empty() {
         text.length() as i128 + 1
     } else {
-        count_cuts(text.as_str(), part) as i128
+        count_cuts(all, part) as i128
     }
 }
 

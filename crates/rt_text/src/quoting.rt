@@ -1,6 +1,6 @@
 //! How `repr` shows texts, and values that are no texts and have no items.
 
-ghost use Rattle.std.specs.Prelude.{◌≡◌, ◌++◌, ◌<◌, IfOk, OnOk, nat_eq, option_copied, slice_get, string_bytes};
+ghost use Rattle.std.specs.Prelude.{◌≡◌, ◌∷◌, ◌++◌, ◌<◌, encode_utf8, IfOk, OnOk, nat_eq, option_copied, slice_get, string_bytes};
 ghost use Rattle.std.specs.Char.{digit_char};
 ghost use Rattle.std.specs.Fmt.{signed_decimal};
 ghost use Rattle.std.specs.List.{list_any};
@@ -60,13 +60,23 @@ fn push_hexadecimal(all: &mut String, byte: u32) -> Result<(), AllocError>
     all.push(hexadecimal_digit(byte % 16))
 }
 
+fn push_escaped(all: &mut String, character: char) -> Result<(), AllocError>
+    ensures { OnOk result (string_bytes all.new ≡ string_bytes all.old ++ 92 ∷ encode_utf8 character) }
+{
+    all.push('\\')?;
+    all.push(character)
+}
+
 // A character as it stands in quotation marks.
+#[tactic(auto, using(crate::proofs::Quotes::escaped_backslash, crate::proofs::Quotes::escaped_mark))]
 fn push_quoted(all: &mut String, mark: char, character: char) -> Result<(), AllocError>
+    requires { quotes.IsMark mark }
     ensures { OnOk result (string_bytes all.new ≡ string_bytes all.old ++ quotes.quoted_char mark character) }
 {
-    if character == '\\' || character == mark {
-        all.push('\\')?;
-        all.push(character)
+    if character == '\\' {
+        push_escaped(all, character)
+    } else if character == mark {
+        push_escaped(all, character)
     } else if character == '\n' {
         all.push_str("\\n")
     } else if character == '\r' {
