@@ -1,9 +1,10 @@
 -- Texts of ASCII characters.
-use Rattle.std.proofs.Common.{◌≡◌, ℕ, zero, suc, ◌+◌, ◌<◌, ◌≤◌, Bool, true, false, cond, List, [], ◌∷◌, ◌++◌, length, refl, sym, ap, ◌∙◌, arith}
+use Rattle.std.proofs.Common.{◌≡◌, ℕ, zero, suc, ◌+◌, ◌<◌, ◌≤◌, Bool, true, false, cond, List, [], ◌∷◌, ◌++◌, length, get_or, refl, sym, ap, ◌∙◌, arith}
 use Rattle.std.proofs.lemmas.Bool.Decides.{nat_tests}
 use Rattle.std.proofs.lemmas.List.{length-append}
 use Rattle.std.proofs.lemmas.Str.{chars-nil, chars_from_encodes, length-le-encodes}
-use Rattle.std.specs.Prelude.{nat_lt, ◌==◌, ◌&&◌, slice_index, MatchBool, IsUtf8, IsAscii, encode_utf8_all}
+use Rattle.std.proofs.lemmas.Option.{slice_get_past}
+use Rattle.std.specs.Prelude.{Option, Some, None, slice_get, nat_lt, ◌==◌, ◌&&◌, slice_index, MatchBool, IsUtf8, IsAscii, encode_utf8_all}
 use Rattle.std.specs.Str.{IsNotAscii, chars}
 use Rattle.std.specs.Char.{encode_utf8}
 use Rattle.nu_text.specs.Characters.{characters}
@@ -89,3 +90,13 @@ plain_characters bs u e =
     let spelled : encode_utf8_all u.0 ≡ bs = u.1.1 in
     let same : encode_utf8_all u.0 ≡ u.0 = singles u.0 (ap length spelled ∙ sym e ∙ ap characters (sym spelled) ∙ all_counted u.0) in
     sym (chars_from_encodes u.0 bs u spelled) ∙ sym same ∙ spelled
+
+-- ---- a byte at a place
+
+pub byte_within : (xs : List ℕ) (i x : ℕ) → i < length xs → x ≡ get_or xs i x → Some x ≡ slice_get xs i
+byte_within [] i x h e = absurd (omega (arith, h))
+byte_within (y ∷ ys) zero x h e = ap (λ (z : ℕ). Some z) e
+byte_within (y ∷ ys) (suc i) x h e = byte_within ys i x (omega (arith, h)) e
+
+pub byte_past : (xs : List ℕ) (i : ℕ) → length xs ≤ i → None ≡ slice_get xs i
+byte_past xs i h = sym (slice_get_past xs i h)
