@@ -1,16 +1,16 @@
 -- Texts of ASCII characters.
-use Rattle.std.proofs.Common.{◌≡◌, ℕ, zero, suc, ◌+◌, ◌<◌, ◌≤◌, Bool, true, false, cond, List, [], ◌∷◌, ◌++◌, length, get_or, refl, sym, ap, ◌∙◌, arith}
+use Rattle.std.proofs.Common.{◌≡◌, ℕ, zero, suc, ◌<◌, ◌≤◌, Bool, true, false, List, [], ◌∷◌, ◌++◌, length, get_or, refl, sym, ap, ◌∙◌, arith}
 use Rattle.std.proofs.lemmas.Bool.Decides.{nat_tests}
 use Rattle.std.proofs.lemmas.List.{length-append}
 use Rattle.std.proofs.lemmas.Str.{chars-nil, chars_from_encodes, length-le-encodes}
 use Rattle.std.proofs.lemmas.Option.{slice_get_past}
-use Rattle.std.specs.Prelude.{Option, Some, None, slice_get, nat_lt, ◌==◌, ◌&&◌, slice_index, MatchBool, IsUtf8, IsAscii, encode_utf8_all}
+use Rattle.std.specs.Prelude.{Some, None, slice_get, nat_lt, ◌==◌, ◌&&◌, slice_index, MatchBool, IsUtf8, IsAscii, encode_utf8_all}
 use Rattle.std.specs.Str.{IsNotAscii, chars}
 use Rattle.std.specs.Char.{encode_utf8}
 use Rattle.nu_text.specs.Characters.{characters}
 use Rattle.op_rules.specs.Numerals.{number_of_one, no_character}
 use Rattle.op_rules.specs.TextParts.{is_ascii}
-use Rattle.rt_text.proofs.Encoded.{next, Size, One, Two, Three, Four, size_of, one_byte, two_bytes, three_bytes, four_bytes, all_counted}
+use Rattle.rt_text.proofs.Encoded.{Size, One, Two, Three, Four, size_of, one_byte, two_bytes, three_bytes, four_bytes, all_counted}
 
 -- ---- the test
 

@@ -1,6 +1,6 @@
 -- Texts cut at the places of a part.
 use Rattle.std.proofs.Common.{◌≡◌, ℕ, zero, suc, ◌+◌, ◌-◌, ◌<◌, ◌≤◌, Bool, true, false, cond, List, [], ◌∷◌, ◌++◌, length, take, drop, refl, sym, ap, ◌∙◌, subst, arith, append_assoc}
-use Rattle.std.specs.Prelude.{Option, Some, None, MatchOption, IfSome, nat_eq, ◌==◌, encode_utf8, ◌⊎◌}
+use Rattle.std.specs.Prelude.{Option, Some, None, MatchOption, IfSome, nat_eq, ◌==◌, encode_utf8}
 use Rattle.std.specs.List.{starts_with}
 use Rattle.std.specs.Str.{chars}
 use Rattle.std.specs.Str.Pattern.{FindsText, LacksTextAt, SplitsAroundMatch}

@@ -2,9 +2,9 @@
 use Rattle.std.proofs.Common.{◌≡◌, ℕ, zero, suc, ◌+◌, ◌-◌, ◌*◌, ◌^◌, ◌<◌, ◌≤◌, Bool, true, false, cond, List, [], ◌∷◌, length, get_or, drop, refl, ap, ◌∙◌, arith}
 use Rattle.std.proofs.lemmas.Bool.Decides.{nat_tests}
 use Rattle.std.proofs.lemmas.List.{at_drop_more}
-use Rattle.std.specs.Prelude.{pos, negsuc, neg_ℤ, nat_eq, nat_lt, Option, Some, None, IfNone}
+use Rattle.std.specs.Prelude.{pos, negsuc, nat_eq, nat_lt, Option, Some, None, IfNone}
 use Rattle.op_rules.specs.declared.arithmetic.Computed.TheVariants as computed
-use Rattle.op_rules.specs.Numbers.{in_range, computed_end}
+use Rattle.op_rules.specs.Numbers.{in_range}
 use Rattle.op_rules.specs.Numerals.{numeral_value, signed}
 
 either : (x : Bool) (n a b : ℕ) → n ≤ a → n ≤ b → n ≤ cond x a b

@@ -1,12 +1,11 @@
 -- What stands in a text, how often and where, from its first cut.
-use Rattle.std.proofs.Common.{◌≡◌, ℕ, zero, suc, ◌+◌, ◌-◌, ◌<◌, Bool, true, false, List, [], ◌∷◌, ◌++◌, length, refl, sym, ap, ◌∙◌, arith, map}
+use Rattle.std.proofs.Common.{◌≡◌, ℕ, suc, ◌+◌, ◌-◌, true, false, List, [], ◌∷◌, ◌++◌, length, refl, sym, ap, ◌∙◌, arith, map}
 use Rattle.std.specs.Prelude.{pos, negsuc, ◌==◌, encode_utf8, IsUtf8, Option, Some, None}
 use Rattle.std.specs.Option.{is_some}
 use Rattle.std.specs.Str.{chars}
-use Rattle.std.proofs.lemmas.List.{length-append}
 use Rattle.std.proofs.lemmas.Str.{encodes-chars}
 use Rattle.nu_text.specs.Characters.{characters}
-use Rattle.op_rules.specs.TextParts.{pieces_from, single_pieces, pieces}
+use Rattle.op_rules.specs.TextParts.{pieces_from, pieces}
 use Rattle.op_rules.specs.TextAccess.{has_cut, stands_in}
 use Rattle.op_rules.specs.TextMethods.{found_at}
 use Rattle.rt_text.proofs.Cuts.{CutAt, cons_of, single_cons, pieces_empty, pieces_other}

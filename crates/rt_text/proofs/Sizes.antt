@@ -1,6 +1,5 @@
 -- How many characters joined texts have.
-use Rattle.std.proofs.Common.{◌≡◌, ℕ, ◌+◌, List, [], ◌∷◌, ◌++◌, refl, sym, ap, ◌∙◌, arith, cond}
-use Rattle.std.specs.Prelude.{◌||◌, nat_le, nat_lt}
+use Rattle.std.proofs.Common.{◌≡◌, ℕ, ◌+◌, List, [], ◌∷◌, ◌++◌, refl, arith}
 use Rattle.std.specs.List.{flat_map}
 use Rattle.nu_text.specs.Characters.{characters}
 use Rattle.nu_value.specs.declared.value.Value.{Value}

@@ -1,5 +1,5 @@
 -- The pieces of a text, joined again, and its first place of a part.
-use Rattle.std.proofs.Common.{◌≡◌, ℕ, zero, suc, ◌+◌, ◌-◌, ◌<◌, ◌≤◌, Bool, true, false, cond, List, [], ◌∷◌, ◌++◌, length, take, drop, true≢false, refl, sym, ap, ◌∙◌, subst, arith, append_assoc, map, ◌⊎◌, inl, inr}
+use Rattle.std.proofs.Common.{◌≡◌, ℕ, zero, suc, ◌-◌, ◌<◌, ◌≤◌, Bool, true, false, cond, List, [], ◌∷◌, ◌++◌, length, drop, true≢false, refl, sym, ap, ◌∙◌, arith, append_assoc, map}
 use Rattle.std.specs.Prelude.{pos, negsuc, ◌≢◌, nat_eq, ◌==◌, encode_utf8, encode_utf8_all, IsUtf8}
 use Rattle.std.specs.List.{starts_with, flat_map}
 use Rattle.std.specs.Str.{chars}
@@ -7,10 +7,8 @@ use Rattle.std.proofs.lemmas.Bool.Decides.{nat_tests}
 use Rattle.std.proofs.lemmas.List.{append-nil}
 use Rattle.std.proofs.lemmas.Str.{encodes-chars}
 use Rattle.nu_text.specs.Characters.{characters}
-use Rattle.nu_value.specs.declared.value.Value.{Value}
-use Rattle.nu_value.specs.declared.value.Value.TheVariants as value
 use Rattle.op_rules.specs.TextMethods.{found_at, replaced}
-use Rattle.op_rules.specs.TextParts.{pieces_from, single_pieces, pieces, text_values, text_in, joined}
+use Rattle.op_rules.specs.TextParts.{pieces_from, pieces, text_values, text_in, joined}
 use Rattle.rt_text.specs.Laws.{IsFirstPlace}
 use Rattle.rt_text.proofs.Cuts.{IsCons, cons_of, start_of, starts, at_start, pieces_other}
 

@@ -1,4 +1,4 @@
-use Rattle.rt_text.proofs.Ascii.{ascii_test, ascii_true}
+use Rattle.rt_text.proofs.Ascii.{ascii_test}
 use Rattle.rt_text.proofs.parts.is_ascii.Goals as goal
 
 pub returns-clause-test : goal.returns-clause-test
