@@ -11,6 +11,8 @@ pub mod Keys
 pub mod Views
 pub mod DictMethods
 pub mod Dicts
+pub mod TextPlain
+pub mod TextAccess
 pub mod TextCalls
 pub mod Subclasses
 pub mod Specials

@@ -79,7 +79,7 @@ if_plain false e f p q = q
 
 -- ---- integers
 
-computed_plain : (c : Computed) → IsPlain (computed_end c)
+pub computed_plain : (c : Computed) → IsPlain (computed_end c)
 computed_plain (computed.Int z) = tt
 computed_plain computed.TooLarge = tt
 computed_plain computed.Float = tt
@@ -173,7 +173,7 @@ int_plain other h args = tt
 
 -- ---- texts
 
-sized_plain : (n : ℕ) (e : OpEnd) → IsPlain e → IsPlain (sized n e)
+pub sized_plain : (n : ℕ) (e : OpEnd) → IsPlain e → IsPlain (sized n e)
 sized_plain n e p = if_plain (nat_le n size_limit) e _ p tt
 
 repeated_plain : (text : List ℕ) (other : OpEnd) (n : Option ℤ) → IsPlain other → IsPlain (repeated_by text other n)

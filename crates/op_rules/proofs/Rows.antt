@@ -31,7 +31,8 @@ use Rattle.op_rules.proofs.Access.{other_right}
 use Rattle.op_rules.proofs.Classes.{class_right, attributes_right}
 use Rattle.op_rules.proofs.Dicts.{dict_right}
 use Rattle.op_rules.proofs.Sequences.{sequence_right}
-use Rattle.op_rules.proofs.Plain.{plain_right, text_plain, call_plain, truth_after_plain, length_after_plain}
+use Rattle.op_rules.proofs.TextAccess.{text_right}
+use Rattle.op_rules.proofs.Plain.{plain_right, call_plain, truth_after_plain, length_after_plain}
 use Rattle.op_rules.proofs.Usual.{ended, fails, failed, idle, given_right, change_right, made_right, if_end}
 
 -- once it is bound nothing is asked any more
@@ -137,7 +138,7 @@ module _ (c : Claim) (w : World) (k : Closed c w) where
   family_right family.Classes o args q = class_right c w k o args q
   family_right family.Dicts o args q = dict_right c w k o args q
   family_right family.Sequences o args q = sequence_right c w k o args q
-  family_right family.Texts o args q = plain_right c w k _ (text_plain o w.heap args)
+  family_right family.Texts o args q = text_right c w k o args q
   family_right family.Integers o args q = other_right c w k o args q
 
   truth_right : (f : Family) (o : Op) (args : List Value) → Given c o args → Right c w (truth_of f o w.heap args)

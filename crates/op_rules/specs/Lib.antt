@@ -7,6 +7,14 @@ pub mod TextRows
 pub mod NameRows
 pub mod Asking
 pub mod Access
+pub mod Items
+pub mod Slices
+pub mod TextItems
+pub mod TextParts
+pub mod TextAccess
+pub mod TextMethods
+pub mod Numerals
+pub mod Quoting
 pub mod Sequences
 pub mod Keys
 pub mod Views

@@ -16,7 +16,7 @@ use Rattle.op_rules.specs.Access.{other_row}
 use Rattle.op_rules.specs.Classes.{class_row, attribute_row}
 use Rattle.op_rules.specs.Dicts.{dict_row}
 use Rattle.op_rules.specs.Sequences.{sequence_row}
-use Rattle.op_rules.specs.TextRows.{text_row}
+use Rattle.op_rules.specs.TextAccess.{text_doing}
 use Rattle.op_rules.specs.CallRows.{call_row}
 use Rattle.op_rules.specs.Binding.{bound}
 
@@ -57,7 +57,7 @@ abbrev pub family_row : Family → Op → List Object → List Value → Doing
 family_row family.Classes o h args = class_row o h args
 family_row family.Dicts o h args = dict_row o h args
 family_row family.Sequences o h args = sequence_row o h args
-family_row family.Texts o h args = ends (text_row o h args)
+family_row family.Texts o h args = text_doing o h args
 family_row family.Integers o h args = ends (other_row o h args)
 
 -- an operation that goes by the kinds of all its operands

@@ -2,3 +2,12 @@ mod Arguments
 mod Copies
 mod Encoded
 mod Ordered
+mod Cuts
+mod Places
+mod Sizes
+mod Ascii
+mod Blanks
+mod Digits
+mod Picked
+mod Quotes
+mod Splitting

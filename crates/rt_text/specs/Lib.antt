@@ -1,1 +1,3 @@
+pub mod Sizes
+pub mod Quoted
 pub mod Laws

@@ -18,9 +18,10 @@ use std::alloc::{AllocError, Global};
 use std::cmp::Ordering;
 
 /// The most characters of a text.
-const SIZE_LIMIT: u128 = 16_777_216;
+pub const SIZE_LIMIT: u128 = 16_777_216;
 
-fn give_text(alloc: Global, text: &str) -> Result<OpEnd, AllocError>
+/// A text is given.
+pub fn give_text(alloc: Global, text: &str) -> Result<OpEnd, AllocError>
     ensures { IfOk result (λ e. e ≡ opend.Give (value.Str text.now)) }
 {
     Ok(OpEnd::Give(Value::Str(RcStr::from_str(alloc, text)?)))
