@@ -1,3 +1,4 @@
 pub mod Loops
 mod Arguments
 mod Members
+mod Places
