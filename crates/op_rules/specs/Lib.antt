@@ -6,7 +6,16 @@ pub mod IntRows
 pub mod TextRows
 pub mod NameRows
 pub mod Asking
+pub mod AskedValues
 pub mod Access
+pub mod Items
+pub mod TextItems
+pub mod Slices
+pub mod Iteration
+pub mod SequenceOperators
+pub mod Ordering
+pub mod Order
+pub mod SequenceMethods
 pub mod Sequences
 pub mod Dicts
 pub mod TextCalls
