@@ -19,6 +19,7 @@ use nu_value::{Heap, Object, Value};
 use op_forms::{Op, OpEnd, World};
 use op_rules::{Family, rows_keep_sound};
 use rt_int::apply_int;
+use rt_seq::apply_seq;
 use rt_text::apply_text;
 use std::alloc::{AllocError, Global};
 
@@ -104,7 +105,7 @@ fn family_row(
     match family {
         Family::Classes => class_row(alloc, op, world, args),
         Family::Dicts => unbuilt(),
-        Family::Sequences => unbuilt(),
+        Family::Sequences => apply_seq(alloc, op, &mut world.heap, &world.codes, args),
         Family::Texts => apply_text(alloc, op, &mut world.heap, &world.codes, args),
         Family::Integers => apply_int(alloc, op, &mut world.heap, &world.codes, args),
     }

@@ -1,0 +1,9 @@
+mod Past
+mod Numbers
+mod Picking
+mod Moved
+mod Repeats
+mod Stepping
+mod SliceLaw
+mod WriteLaw
+mod SortLaw
