@@ -1,7 +1,9 @@
+mod Arguments
 mod Past
 mod Numbers
 mod Picking
 mod Moved
+mod Popping
 mod Repeats
 mod Stepping
 mod SliceLaw

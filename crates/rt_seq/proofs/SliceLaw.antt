@@ -1,16 +1,15 @@
 -- A slice's items are those at its places, since each place is one of the list.
-use Rattle.std.proofs.Common.{◌≡◌, ℕ, zero, suc, ◌+◌, ◌-◌, ◌*◌, ◌<◌, ◌≤◌, ◌⊎◌, inl, inr, ℤ, pos, negsuc, ◌+ℤ◌, ◌-ℤ◌, ◌*ℤ◌, Bool, true, false, List, [], ◌∷◌, ◌++◌, Option, Some, None, length, refl, sym, ap, subst, ◌∙◌, arith}
+use Rattle.std.proofs.Common.{◌≡◌, ℕ, zero, suc, ◌+◌, ◌-◌, ◌*◌, ◌<◌, ◌≤◌, ◌⊎◌, inl, inr, ℤ, pos, negsuc, ◌+ℤ◌, ◌-ℤ◌, ◌*ℤ◌, Bool, true, false, true≢false, List, [], ◌∷◌, ◌++◌, Option, Some, None, length, refl, sym, ap, subst, ◌∙◌, arith}
 use Rattle.std.specs.Prelude.{int_lt, unsigned_abs, slice_get, if◌then◌else◌}
 use Rattle.std.specs.Option.{option_to_list}
 use Rattle.std.proofs.lemmas.Int.{ints}
-use Rattle.std.proofs.lemmas.Option.{slice_get-get_or}
-use Rattle.std.proofs.Math.IntN.{suc_ℤ-*ℤ}
+use Rattle.std.proofs.Math.IntN.{suc_ℤ-*ℤ, *ℤ_comm, *ℤ-zero, +ℤ_assoc, +ℤ_comm, +ℤ_idr}
 use Rattle.nu_value.specs.declared.value.Value.{Value}
 use Rattle.nu_value.specs.Ranges.{range_count}
 use Rattle.op_rules.specs.Items.{number_at}
 use Rattle.op_rules.specs.Slices.{from_end, cut, bound, first_place, end_place, item_from, item_list, picked, sliced}
 use Rattle.rt_seq.specs.Laws.{slice_count, slice_place, SlicesAreItems}
-use Rattle.rt_seq.proofs.Numbers.{offset_short, up_is, down_is}
+use Rattle.rt_seq.proofs.Numbers.{offset_short, up_is, down_is, goes_up, goes_down}
 use Rattle.rt_seq.proofs.Picking.{either}
 
 -- ---- items that are there are picked one by one
@@ -19,12 +18,15 @@ use Rattle.rt_seq.proofs.Picking.{either}
 abbrev IsThere : List Value → ℤ → Type 0
 IsThere items place = (v : Value) × (item_from items place ≡ Some v)
 
+times_next : (step : ℤ) (k : ℕ) → step *ℤ pos (suc k) ≡ step +ℤ step *ℤ pos k
+times_next step k = *ℤ_comm step (pos (suc k)) ∙ suc_ℤ-*ℤ (pos k) step ∙ ap (λ z. z +ℤ step) (*ℤ_comm (pos k) step) ∙ +ℤ_comm (step *ℤ pos k) step
+
 -- one step more
 next_place : (place step : ℤ) (k : ℕ) → (place +ℤ step) +ℤ step *ℤ pos k ≡ place +ℤ step *ℤ pos (suc k)
-next_place place step k = grind (arith, ints)
+next_place place step k = +ℤ_assoc place step (step *ℤ pos k) ∙ ap (λ z. place +ℤ z) (sym (times_next step k))
 
 same_place : (place step : ℤ) → place +ℤ step *ℤ pos 0 ≡ place
-same_place place step = grind (arith, ints)
+same_place place step = ap (λ z. place +ℤ z) (*ℤ-zero step) ∙ +ℤ_idr place
 
 abbrev AllThere : List Value → ℤ → ℤ → ℕ → Type 0
 AllThere items place step n = (k : ℕ) → k < n → IsThere items (number_at place step k)
@@ -39,17 +41,18 @@ picked_length : (items : List Value) (place step : ℤ) (n : ℕ) → AllThere i
 picked_length items place step zero t = refl
 picked_length items place step (suc n) t =
     let v = first_there items place step n t in
-    rw v.1 (ap suc (picked_length items (place +ℤ step) step n (rest_there items place step n t)))
+    ap (λ o. length (option_to_list o ++ picked items (place +ℤ step) step n)) v.1 ∙ ap suc (picked_length items (place +ℤ step) step n (rest_there items place step n t))
 
 picked_get : (items : List Value) (place step : ℤ) (n k : ℕ) → AllThere items place step n → k < n → slice_get (picked items place step n) k ≡ item_from items (number_at place step k)
 picked_get items place step zero k t h = absurd (omega arith)
 picked_get items place step (suc n) zero t h =
     let v = first_there items place step n t in
-    rw v.1 (sym v.1 ∙ ap (item_from items) (sym (same_place place step)))
+    ap (λ o. slice_get (option_to_list o ++ picked items (place +ℤ step) step n) 0) v.1 ∙ sym v.1 ∙ ap (item_from items) (sym (same_place place step))
 picked_get items place step (suc n) (suc k) t h =
     let v = first_there items place step n t in
-    rw v.1
-    (picked_get items (place +ℤ step) step n k (rest_there items place step n t) (omega arith) ∙ ap (item_from items) (next_place place step k))
+    ap (λ o. slice_get (option_to_list o ++ picked items (place +ℤ step) step n) (suc k)) v.1
+    ∙ picked_get items (place +ℤ step) step n k (rest_there items place step n t) (omega arith)
+    ∙ ap (item_from items) (next_place place step k)
 
 -- ---- places lie in the list
 
@@ -137,10 +140,10 @@ last_low count = grind (arith, ints)
 
 chosen : (P : ℤ → Type 0) (b : Bool) (x y : ℤ) → b ≡ true → P x → P (if b then x else y)
 chosen P true x y e p = p
-chosen P false x y e p = absurd (cc)
+chosen P false x y e p = absurd (true≢false (sym e))
 
 other : (P : ℤ → Type 0) (b : Bool) (x y : ℤ) → b ≡ false → P y → P (if b then x else y)
-other P true x y e p = absurd (cc)
+other P true x y e p = absurd (true≢false e)
 other P false x y e p = p
 
 all_there : (items : List Value) (start stop : Option ℤ) (step : ℤ) → AllThere items (first_place (length items) step start) step (slice_count (length items) start stop step)
@@ -148,15 +151,15 @@ all_there items start stop step k h =
     elim (either (int_lt (pos 0) step)) [
       | inl s ↦
           up_there items (first_place (length items) step start) (end_place (length items) step stop) step k
-          (chosen (λ z. int_lt z (pos 0) ≡ false) (int_lt (pos 0) step) _ _ s (bound_low (length items) (pos 0) (pos 0) (pos (length items)) start (not_less (pos 0)) (length_low (length items))))
-          (chosen (λ z. int_lt (pos (length items)) z ≡ false) (int_lt (pos 0) step) _ _ s
+          (chosen (λ z. int_lt z (pos 0) ≡ false) (int_lt (pos 0) step) (bound (length items) (pos 0) (pos 0) (pos (length items)) start) (bound (length items) (pos (length items) -ℤ pos 1) (negsuc 0) (pos (length items) -ℤ pos 1) start) s (bound_low (length items) (pos 0) (pos 0) (pos (length items)) start (not_less (pos 0)) (length_low (length items))))
+          (chosen (λ z. int_lt (pos (length items)) z ≡ false) (int_lt (pos 0) step) (bound (length items) (pos (length items)) (pos 0) (pos (length items)) stop) (bound (length items) (negsuc 0) (negsuc 0) (pos (length items) -ℤ pos 1) stop) s
           (bound_high (length items) (pos (length items)) (pos 0) (pos (length items)) stop (not_less (pos (length items))) (length_low (length items))))
           h s
       | inr s ↦
           down_there items (first_place (length items) step start) (end_place (length items) step stop) step k
-          (other (λ z. int_lt (pos (length items) -ℤ pos 1) z ≡ false) (int_lt (pos 0) step) _ _ s
+          (other (λ z. int_lt (pos (length items) -ℤ pos 1) z ≡ false) (int_lt (pos 0) step) (bound (length items) (pos 0) (pos 0) (pos (length items)) start) (bound (length items) (pos (length items) -ℤ pos 1) (negsuc 0) (pos (length items) -ℤ pos 1) start) s
           (bound_high (length items) (pos (length items) -ℤ pos 1) (negsuc 0) (pos (length items) -ℤ pos 1) start (not_less (pos (length items) -ℤ pos 1)) (last_low (length items))))
-          (other (λ z. int_lt z (negsuc 0) ≡ false) (int_lt (pos 0) step) _ _ s
+          (other (λ z. int_lt z (negsuc 0) ≡ false) (int_lt (pos 0) step) (bound (length items) (pos (length items)) (pos 0) (pos (length items)) stop) (bound (length items) (negsuc 0) (negsuc 0) (pos (length items) -ℤ pos 1) stop) s
           (bound_low (length items) (negsuc 0) (negsuc 0) (pos (length items) -ℤ pos 1) stop (not_less (negsuc 0)) (last_low (length items))))
           h s
     ]

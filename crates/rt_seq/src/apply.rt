@@ -17,12 +17,15 @@ use op_rules::{no_operand, no_operands};
 use std::alloc::{AllocError, Global};
 
 // An operator on two values of which one is a sequence.
-fn pair(alloc: Global, op: Op, heap: &mut Heap, args: &[Value]) -> Result<OpEnd, AllocError>
-    ensures { IfOk result (λ e. Did (spec.operators_row op heap.old args.now) heap.old heap.new e) }
+fn sequence_pair(
+    alloc: Global,
+    op: Op,
+    heap: &mut Heap,
+    a: &Value,
+    b: &Value,
+) -> Result<OpEnd, AllocError>
+    ensures { IfOk result (λ e. Did (spec.sequence_pair op heap.old a.now b.now) heap.old heap.new e) }
 {
-    let [a, b] = args else {
-        return Ok(OpEnd::Stop(StopKind::Unbuilt));
-    };
     match op {
         Op::Add => add_row(alloc, Op::Add, heap, a, b),
         Op::IAdd => iadd_row(alloc, heap, a, b),
@@ -30,6 +33,15 @@ fn pair(alloc: Global, op: Op, heap: &mut Heap, args: &[Value]) -> Result<OpEnd,
         Op::IMul => imul_row(alloc, heap, a, b),
         Op::Mod => mod_row(alloc, heap, a, b),
         _ => no_operands(alloc, op.sign(), heap, a, b),
+    }
+}
+
+fn pair(alloc: Global, op: Op, heap: &mut Heap, args: &[Value]) -> Result<OpEnd, AllocError>
+    ensures { IfOk result (λ e. Did (spec.operators_row op heap.old args.now) heap.old heap.new e) }
+{
+    match args {
+        [a, b] => sequence_pair(alloc, op, heap, a, b),
+        _ => Ok(OpEnd::Stop(StopKind::Unbuilt)),
     }
 }
 
