@@ -5,6 +5,15 @@ pub mod Usual
 pub mod Plain
 pub mod Asks
 pub mod Access
+pub mod AskedValues
+pub mod AllItems
+pub mod Items
+pub mod Slices
+pub mod Iteration
+pub mod SequenceOperators
+pub mod Ordering
+pub mod Order
+pub mod SequenceMethods
 pub mod Sequences
 pub mod Removal
 pub mod Keys

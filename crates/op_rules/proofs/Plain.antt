@@ -92,7 +92,7 @@ number_plain : (f : ℤ → OpEnd) (other : OpEnd) (x : Option ℤ) → ((a : �
 number_plain f other None p q = q
 number_plain f other (Some a) p q = p a
 
-numbers_plain : (f : ℤ → ℤ → OpEnd) (other : OpEnd) (x y : Option ℤ) → ((a b : ℤ) → IsPlain (f a b)) → IsPlain other → IsPlain (on_numbers f other x y)
+pub numbers_plain : (f : ℤ → ℤ → OpEnd) (other : OpEnd) (x y : Option ℤ) → ((a b : ℤ) → IsPlain (f a b)) → IsPlain other → IsPlain (on_numbers f other x y)
 numbers_plain f other None y p q = q
 numbers_plain f other (Some a) None p q = q
 numbers_plain f other (Some a) (Some b) p q = p a b
@@ -221,7 +221,7 @@ text_pair_plain o other a b p = p
 operation_plain : (o : Op) (h : List Object) (a b : Value) → IsPlain (text_operation o h a b)
 operation_plain o h a b = text_pair_plain o _ a b (lit< tt, tt)
 
-texts_plain : (f : List ℕ → List ℕ → OpEnd) (other : OpEnd) (a b : Value) → ((s t : List ℕ) → IsPlain (f s t)) → IsPlain other → IsPlain (on_texts f other a b)
+pub texts_plain : (f : List ℕ → List ℕ → OpEnd) (other : OpEnd) (a b : Value) → ((s t : List ℕ) → IsPlain (f s t)) → IsPlain other → IsPlain (on_texts f other a b)
 texts_plain f other (value.Str s) (value.Str t) p q = p s t
 texts_plain f other (value.Str s) value.Unset p q = q
 texts_plain f other (value.Str s) value.None p q = q

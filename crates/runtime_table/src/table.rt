@@ -21,6 +21,7 @@ use op_rules::{Family, rows_keep_sound};
 use rt_class::{apply_attribute, apply_class};
 use rt_dict::apply_dict;
 use rt_int::apply_int;
+use rt_seq::apply_seq;
 use rt_text::apply_text;
 use std::alloc::{AllocError, Global};
 
@@ -103,7 +104,7 @@ fn family_row(
     match family {
         Family::Classes => apply_class(alloc, op, &mut world.heap, &world.codes, args),
         Family::Dicts => apply_dict(alloc, op, &mut world.heap, &world.codes, args),
-        Family::Sequences => unbuilt(),
+        Family::Sequences => apply_seq(alloc, op, &mut world.heap, &world.codes, args),
         Family::Texts => apply_text(alloc, op, &mut world.heap, &world.codes, args),
         Family::Integers => apply_int(alloc, op, &mut world.heap, &world.codes, args),
     }

@@ -1,0 +1,11 @@
+mod Arguments
+mod Past
+mod Numbers
+mod Picking
+mod Moved
+mod Popping
+mod Repeats
+mod Stepping
+mod SliceLaw
+mod WriteLaw
+mod SortLaw

@@ -1,0 +1,4 @@
+pub mod Edits
+pub mod Laws
+pub mod Methods
+pub mod Steps

@@ -1,0 +1,19 @@
+//! The rows of the table on lists, tuples, ranges and iterators.
+#![tactic(auto)]
+
+mod apply;
+mod asking;
+mod characters;
+mod edits;
+mod errors;
+mod items;
+mod laws;
+mod lists;
+mod methods;
+mod operators;
+mod search;
+mod slices;
+mod steps;
+
+pub use apply::{apply_seq, call_seq};
+pub use laws::{slices_are_items, sorting_is_stable, writes_are_read};
