@@ -16,10 +16,14 @@ use Rattle.op_forms.specs.Doing.{Doing, ends}
 use Rattle.op_forms.specs.Parts.{AllOf, NamesOf, OrUnset}
 use Rattle.op_forms.specs.Right.{Claim, Closed, GivenBy, Given, Right}
 use Rattle.op_forms.specs.Sound.{AreNamesDistinct}
+use Rattle.op_rules.specs.Ordering.{order_row}
 use Rattle.op_rules.specs.Sequences.{sequence_pair, on_one, on_two, on_three, on_four, sequence_row, plain_native, sequence_call}
 use Rattle.op_rules.proofs.AskedValues.{two_right as asked_two, three_right as asked_three}
 use Rattle.op_rules.proofs.Items.{tuple_row_right, list_row_right, push_right, index_right, setindex_right, delindex_right, len_right}
 use Rattle.op_rules.proofs.Iteration.{iter_right, next_right}
+use Rattle.op_rules.proofs.Order.{order_right}
+use Rattle.op_rules.proofs.Ordering.{order_plain}
+use Rattle.op_rules.proofs.Plain.{plain_right}
 use Rattle.op_rules.proofs.SequenceMethods.{without_right, method_right}
 use Rattle.op_rules.proofs.SequenceOperators.{add_right, iadd_right, mul_right, imul_right, mod_right, in_right}
 use Rattle.op_rules.proofs.Slices.{slice_right}
@@ -76,6 +80,9 @@ module _ (c : Claim) (w : World) (k : Closed c w) where
   operator_right : (o : Op) (args : List Value) → AllOf c.of args → Right c w (on_two (sequence_pair o w.heap) args)
   operator_right o args q = two_right (sequence_pair o w.heap) (pair_right o) args q
 
+  compared_right : (o : Op) (args : List Value) → AllOf c.of args → Right c w (on_two (λ a b. ends (order_row o w.heap a b)) args)
+  compared_right o args q = two_right _ (λ a b p r. plain_right c w k _ (order_plain o w.heap a b)) args q
+
   pub sequence_right : (o : Op) (args : List Value) → Given c o args → Right c w (sequence_row o w.heap args)
   sequence_right op.Tuple args q = tuple_row_right c w k args q
   sequence_right op.List args q = list_row_right c w k args q
@@ -107,6 +114,10 @@ module _ (c : Claim) (w : World) (k : Closed c w) where
   sequence_right op.Xor args q = operator_right op.Xor args (all_given (arguments op.Xor) args tt q)
   sequence_right op.IAdd args q = operator_right op.IAdd args (all_given (arguments op.IAdd) args tt q)
   sequence_right op.IMul args q = operator_right op.IMul args (all_given (arguments op.IMul) args tt q)
+  sequence_right op.Lt args q = compared_right op.Lt args (all_given (arguments op.Lt) args tt q)
+  sequence_right op.Le args q = compared_right op.Le args (all_given (arguments op.Le) args tt q)
+  sequence_right op.Gt args q = compared_right op.Gt args (all_given (arguments op.Gt) args tt q)
+  sequence_right op.Ge args q = compared_right op.Ge args (all_given (arguments op.Ge) args tt q)
   sequence_right op.Neg args q = one_right _ (λ a p. failed c w k 35 _ (lit< tt)) args (all_given (arguments op.Neg) args tt q)
   sequence_right op.Pos args q = one_right _ (λ a p. failed c w k 35 _ (lit< tt)) args (all_given (arguments op.Pos) args tt q)
   sequence_right op.Inv args q = one_right _ (λ a p. failed c w k 35 _ (lit< tt)) args (all_given (arguments op.Inv) args tt q)
@@ -117,7 +128,8 @@ module _ (c : Claim) (w : World) (k : Closed c w) where
   native_right : (name : List ℕ) (args : List Value) → Right c w (plain_native name w.heap args)
   native_right name [] = idle c w k
   native_right name (x ∷ []) = if_right c w k (bytes_eq name (codes "len")) _ _ (len_right c w k x) (idle c w k)
-  native_right name (l ∷ r ∷ args) = idle c w k
+  native_right name (l ∷ r ∷ []) = if_right c w k (bytes_eq name (codes "_nu_order")) _ _ (order_right c w k l r) (idle c w k)
+  native_right name (l ∷ r ∷ a ∷ args) = idle c w k
 
   pub sequence_call_right : (name : List ℕ) (receiver : Value) (args : List Value) (names : NameList) → OrUnset c.of receiver → AllOf c.of args → NamesOf c.of names → AreNamesDistinct names
       → Right c w (sequence_call w.heap name receiver args names)

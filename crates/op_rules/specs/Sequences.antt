@@ -13,6 +13,8 @@ use Rattle.op_rules.specs.AskedValues.{asks_two, asks_three}
 use Rattle.op_rules.specs.Items.{tuple_row, list_row, push_row, index_row, setindex_row, delindex_row, len_row}
 use Rattle.op_rules.specs.Iteration.{iter_row, next_row}
 use Rattle.op_rules.specs.Kinds.{no_operand, no_operands}
+use Rattle.op_rules.specs.Order.{order_native}
+use Rattle.op_rules.specs.Ordering.{order_row}
 use Rattle.op_rules.specs.SequenceMethods.{without_keywords, method_on}
 use Rattle.op_rules.specs.SequenceOperators.{add_row, iadd_row, mul_row, imul_row, mod_row, in_row}
 use Rattle.op_rules.specs.Slices.{slice_row}
@@ -73,6 +75,9 @@ accessing_row o h args = nothing
 abbrev pub operators_row : Op → List Object → List Value → Doing
 operators_row o h args = on_two (sequence_pair o h) args
 
+abbrev pub comparing_row : Op → List Object → List Value → Doing
+comparing_row o h args = on_two (λ a b. ends (order_row o h a b)) args
+
 abbrev pub signing_row : Op → List Object → List Value → Doing
 signing_row o h args = on_one (λ a. ends (no_operand (sign_of o) h a)) args
 
@@ -103,6 +108,10 @@ sequence_row op.Or h args = operators_row op.Or h args
 sequence_row op.Xor h args = operators_row op.Xor h args
 sequence_row op.IAdd h args = operators_row op.IAdd h args
 sequence_row op.IMul h args = operators_row op.IMul h args
+sequence_row op.Lt h args = comparing_row op.Lt h args
+sequence_row op.Le h args = comparing_row op.Le h args
+sequence_row op.Gt h args = comparing_row op.Gt h args
+sequence_row op.Ge h args = comparing_row op.Ge h args
 sequence_row op.Neg h args = signing_row op.Neg h args
 sequence_row op.Pos h args = signing_row op.Pos h args
 sequence_row op.Inv h args = signing_row op.Inv h args
@@ -110,12 +119,16 @@ sequence_row other h args = nothing
 
 -- ---- calls
 
--- the native that sequences answer
+-- the natives that sequences answer
 abbrev pub native_of_one : List ℕ → List Object → Value → Doing
 native_of_one name h x = if bytes_eq name (codes "len") then ends (len_row h x) else nothing
 
+abbrev pub native_of_two : List ℕ → List Object → Value → Value → Doing
+native_of_two name h l r = if bytes_eq name (codes "_nu_order") then order_native h l r else nothing
+
 abbrev pub plain_native : List ℕ → List Object → List Value → Doing
 plain_native name h (x ∷ []) = native_of_one name h x
+plain_native name h (l ∷ r ∷ []) = native_of_two name h l r
 plain_native name h args = nothing
 
 -- a built-in of this name, with its receiver or none, is called with arguments and keywords
