@@ -42,7 +42,7 @@ module _ (c : Claim) (w : World) (k : Closed c w) where
   other_right op.Slice (x ∷ a ∷ b ∷ d ∷ []) q = failed c w k 35 _ (lit< tt)
   other_right op.Iter (x ∷ []) q = ended c w k _ (iter_end x q.0)
   other_right op.Next (x ∷ []) q = ended c w k _ (next_end x)
-  other_right op.In (v ∷ x ∷ []) q = ended c w k _ (asks_right c w k _ (v ∷ x ∷ []) [] _ (q.0, q.1.0, tt) tt tt tt)
+  other_right op.In (v ∷ x ∷ []) q = ended c w k _ (asks_right c w k _ (v ∷ x ∷ []) [] _ (q.0, (q.1.0, tt)) tt tt tt)
   other_right op.Index args q = idle c w k
   other_right op.SetIndex args q = idle c w k
   other_right op.DelIndex args q = idle c w k

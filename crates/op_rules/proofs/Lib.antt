@@ -4,11 +4,14 @@ mod Powers
 pub mod Usual
 pub mod Plain
 pub mod Asking
+pub mod Begun
+pub mod Calls
 pub mod Access
 pub mod Sequences
 pub mod Dicts
 pub mod TextCalls
 pub mod Classes
+pub mod Routes
 pub mod Rows
 pub mod Keeping
 mod Start

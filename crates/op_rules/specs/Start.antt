@@ -7,7 +7,7 @@ use Rattle.nu_value.specs.declared.value.Value.TheVariants as value
 use Rattle.nu_value.specs.Names.{NameList, with_name}
 use Rattle.nu_value.specs.Natives.{native_classes}
 use Rattle.op_forms.specs.declared.world.World.{World}
-use Rattle.op_rules.specs.declared.start.TheConstants.{CLASS_NAMES, NATIVE_FUNCTIONS}
+use Rattle.op_rules.specs.declared.first_objects.TheConstants.{CLASS_NAMES, NATIVE_FUNCTIONS}
 
 -- names that get values, from the first on
 unfoldable pub with_all : NameList → NameList → NameList

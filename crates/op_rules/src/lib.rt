@@ -2,22 +2,26 @@
 #![tactic(auto)]
 
 mod arithmetic;
-mod asking;
+mod binding;
+mod built_ins;
+mod callees;
 mod changes;
 mod family;
+mod first_objects;
 mod folding;
 mod kinds;
 mod laws;
-mod start;
 
 pub use arithmetic::{Computed, compute, compute_one};
-pub use asking::{ask, asks_in, asks_iterator, built_in};
+pub use binding::{Bound, Named};
+pub use built_ins::{ask, asks_in, asks_iterator, built_in};
+pub use callees::{Method, Route};
 pub use changes::{bind_in, unbind_in};
 pub use family::Family;
+pub use first_objects::{CLASS_NAMES, NATIVE_FUNCTIONS, first_heap};
 pub use folding::fold;
 pub use kinds::{
     kind_name, no_item_changes, no_iterator, no_operand, no_operands, no_order, not_subscriptable,
     raised,
 };
 pub use laws::{finishing_keeps_sound, rows_keep_sound, the_start_is_sound};
-pub use start::{CLASS_NAMES, NATIVE_FUNCTIONS, first_heap};

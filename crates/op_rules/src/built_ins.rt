@@ -30,7 +30,7 @@ pub fn built_in(heap: &Heap, name: &str) -> Option<u64>
 
 /// The built-in function of this name is asked, and its value goes through `after`; where there is none, it is the stop Unbuilt.
 pub fn ask(heap: &Heap, name: &str, args: Items, names: Names, after: After) -> OpEnd
-    ensures { result ≡ spec.asks heap.now name.now args.now names.now after }
+    ensures { result ≡ spec.asks heap.now name.now args names after }
 {
     match built_in(heap, name) {
         None => OpEnd::Stop(StopKind::Unbuilt),

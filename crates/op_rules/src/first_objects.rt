@@ -70,6 +70,7 @@ pub const NATIVE_FUNCTIONS: [&str; 23] = [
 ];
 
 // Names of classes get these as their values.
+#[tactic(auto, unfolding(crate::specs::Start::with_all))]
 fn name_classes(alloc: Global, names: &mut Names, classes: &[(&str, u64)]) -> Result<(), AllocError>
     ensures { OnOk result (names.new ≡ spec.with_all names.old (map (λ c. (c.0.now, value.Obj c.1)) classes.now)) }
 {
@@ -83,6 +84,7 @@ fn name_classes(alloc: Global, names: &mut Names, classes: &[(&str, u64)]) -> Re
 }
 
 // Names of native functions get the objects from this number on as their values.
+#[tactic(auto, unfolding(crate::specs::Start::with_all, crate::specs::Start::numbered))]
 fn name_natives(
     alloc: Global,
     names: &mut Names,
