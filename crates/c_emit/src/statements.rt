@@ -4,31 +4,40 @@ ghost use Rattle.std.specs.Prelude.{◌≡◌, ℕ, List, [], ◌∷◌, ◌++�
 ghost use Rattle.std.specs.List.{flat_map};
 ghost use Rattle.nu_text.specs.Pieces.{joined};
 ghost use Rattle.op_forms.specs.Names.{op_name};
-ghost use Rattle.c_meaning.specs.declared.program.Operand.TheVariants as operand;
+ghost use Rattle.op_forms.specs.declared.constant.Const.TheVariants as const;
+ghost use Rattle.code_forms.specs.declared.operand.Operand.TheVariants as operand;
 ghost use Rattle.c_meaning.specs.declared.program.Statement.TheVariants as statement;
 ghost use Rattle.c_meaning.specs.declared.program.Stored.TheVariants as stored;
 ghost use Rattle.c_meaning.specs.Text.{numbered, operand_text, argument_text, fail_piece, stored_text, case_text, cases_text, statement_text, line_text};
 
 use crate::pieces::{push_form, push_string};
 use c_meaning::{Argument, Line, Operand, Statement, Stored};
-use op_forms::Op;
+use op_forms::{Const, Op};
 use std::alloc::AllocError;
 
 fn push_operand(text: &mut String, operand: &Operand) -> Result<(), AllocError>
     ensures { OnOk result (string_bytes text.new ≡ string_bytes text.old ++ operand_text operand.now) }
 {
     match operand {
-        Operand::Register(register) => write!(text, "r{register}"),
-        Operand::None => push_form(text, "nu_none"),
-        Operand::True => push_form(text, "nu_true"),
-        Operand::False => push_form(text, "nu_false"),
-        Operand::Int(number) => write!(text, "nu_int(\"{number}\")"),
-        Operand::Str(bytes) => push_text_constant(text, bytes.as_str().as_bytes()),
+        Operand::Temp(register) => write!(text, "r{register}"),
+        Operand::Const(constant) => push_constant(text, constant),
+    }
+}
+
+fn push_constant(text: &mut String, constant: &Const) -> Result<(), AllocError>
+    ensures { OnOk result (string_bytes text.new ≡ string_bytes text.old ++ operand_text (operand.Const constant.now)) }
+{
+    match constant {
+        Const::None => push_form(text, "nu_none"),
+        Const::Bool(true) => push_form(text, "nu_true"),
+        Const::Bool(false) => push_form(text, "nu_false"),
+        Const::Int(number) => write!(text, "nu_int(\"{number}\")"),
+        Const::Str(bytes) => push_text_constant(text, bytes.as_str().as_bytes()),
     }
 }
 
 fn push_text_constant(text: &mut String, bytes: &[u8]) -> Result<(), AllocError>
-    ensures { OnOk result (string_bytes text.new ≡ string_bytes text.old ++ operand_text (operand.Str bytes.now)) }
+    ensures { OnOk result (string_bytes text.new ≡ string_bytes text.old ++ operand_text (operand.Const (const.Str bytes.now))) }
 {
     text.push_str("nu_str(")?;
     push_string(text, bytes)?;

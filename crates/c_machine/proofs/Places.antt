@@ -16,7 +16,7 @@ use Rattle.c_machine.specs.declared.lookup.Hint.{Hint}
 use Rattle.c_machine.specs.InPlace.{behind, bound_in}
 use Rattle.op_forms.specs.declared.world.World.{World}
 use Rattle.c_meaning.specs.declared.code.Placed.{Placed}
-use Rattle.c_meaning.specs.declared.program.Argument.{Argument}
+use Rattle.code_forms.specs.declared.operand.Argument.{Argument}
 use Rattle.c_machine.specs.Places.{Keeps, Right, StayIn, Stays, looked_up, module_names}
 
 abbrev step : Bool → ℕ → ℕ

@@ -14,7 +14,7 @@ use Rattle.op_forms.specs.Doing.{Bind, changed_by}
 use Rattle.c_meaning.specs.declared.code.Code.{Code}
 use Rattle.c_meaning.specs.State.{State, jumps, next, undefined}
 use Rattle.c_meaning.specs.Step.{operates, values}
-use Rattle.c_meaning.specs.declared.program.Argument.{Argument}
+use Rattle.code_forms.specs.declared.operand.Argument.{Argument}
 use Rattle.op_rules.specs.TableRules.{table_rules}
 use Rattle.c_machine.specs.declared.execution.Execution.{Execution}
 use Rattle.c_machine.specs.Standing.{Outside, state_of}

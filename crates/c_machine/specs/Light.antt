@@ -7,7 +7,7 @@ use Rattle.c_meaning.specs.declared.program.Statement.{Statement}
 use Rattle.c_meaning.specs.declared.program.Statement.TheVariants as statement
 use Rattle.c_meaning.specs.declared.code.Placed.{Placed}
 use Rattle.c_meaning.specs.declared.code.Code.{Code}
-use Rattle.c_meaning.specs.Step.{held, step}
+use Rattle.c_meaning.specs.Step.{operand_value, step}
 use Rattle.op_rules.specs.TableRules.{table_rules}
 use Rattle.nu_run.specs.Steps.{More}
 use Rattle.c_machine.specs.declared.execution.Execution.{Execution}
@@ -17,7 +17,7 @@ use Rattle.c_machine.specs.Walks.{gone}
 use Rattle.c_machine.specs.Values.{takes_text}
 
 abbrev pub is_light_store : List (Option Value) → Stored → Bool
-is_light_store registers (stored.Value a) = not (takes_text (held registers a))
+is_light_store registers (stored.Value a) = not (takes_text (operand_value registers a))
 is_light_store registers (stored.Operation o at arguments fail) = false
 is_light_store registers other = true
 
@@ -25,9 +25,9 @@ is_light_store registers other = true
 abbrev pub is_light_statement : Execution → Statement → Bool
 is_light_statement x (statement.Store to what) = is_light_store x.registers what
 is_light_statement x (statement.Goto label) = true
-is_light_statement x (statement.Branch test label) = not (takes_text (held x.registers test))
-is_light_statement x (statement.Again exception label) = not (takes_text (held x.registers exception))
-is_light_statement x (statement.Give a) = nat_eq x.function 0 && not (takes_text (held x.registers a))
+is_light_statement x (statement.Branch test label) = not (takes_text (operand_value x.registers test))
+is_light_statement x (statement.Again exception label) = not (takes_text (operand_value x.registers exception))
+is_light_statement x (statement.Give a) = nat_eq x.function 0 && not (takes_text (operand_value x.registers a))
 is_light_statement x statement.End = nat_eq x.function 0
 is_light_statement x statement.Fail = false
 is_light_statement x other = true

@@ -5,8 +5,8 @@ use Rattle.op_forms.specs.declared.op.Op.{Op}
 use Rattle.op_forms.specs.declared.op.Op.TheVariants as op
 use Rattle.op_forms.specs.declared.world.World.{World}
 use Rattle.op_forms.specs.Answers.{names_of}
-use Rattle.c_meaning.specs.declared.program.Argument.{Argument}
-use Rattle.c_meaning.specs.declared.program.Argument.TheVariants as argument
+use Rattle.code_forms.specs.declared.operand.Argument.{Argument}
+use Rattle.code_forms.specs.declared.operand.Argument.TheVariants as argument
 use Rattle.c_meaning.specs.declared.program.Statement.{Statement}
 use Rattle.c_meaning.specs.declared.program.Statement.TheVariants as statement
 use Rattle.c_meaning.specs.declared.program.Stored.{Stored}

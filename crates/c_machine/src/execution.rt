@@ -4,6 +4,7 @@ ghost use Rattle.std.specs.Prelude.{◌≡◌, ◌+◌, ◌<◌, ◌^◌, None, 
 ghost use Rattle.op_rules.specs.TableRules.{table_rules};
 ghost use Rattle.nu_value.specs.declared.value.Value.TheVariants as value;
 ghost use Rattle.nu_value.specs.View.{is_text};
+ghost use Rattle.op_forms.specs.Constants.{value_of};
 ghost use Rattle.c_meaning.specs.declared.code.Code as code;
 ghost use Rattle.c_meaning.specs.Step as meaning;
 ghost use Rattle.c_meaning.specs.State as states;
@@ -17,6 +18,7 @@ use crate::traceback::uncaught_text;
 use c_meaning::{CEnd, Code, Operand, Placed, Statement, Stored};
 use nu_run::StopKind;
 use nu_value::{Integer, Object, Slots, Value};
+use op_forms::Const;
 use runtime_table::World;
 use std::alloc::{AllocError, Global};
 
@@ -40,19 +42,29 @@ pub(crate) struct Execution {
 /// What an operand holds, if it has a value.
 #[inline]
 pub(crate) fn held(registers: &Slots, operand: &Operand) -> Result<Option<Value>, AllocError>
-    ensures same { IfOk result (λ v. v ≡ meaning.held registers.now operand.now) }
-    ensures sure { takes_text (meaning.held registers.now operand.now) ≡ false → IsOk result }
+    ensures same { IfOk result (λ v. v ≡ meaning.operand_value registers.now operand.now) }
+    ensures sure { takes_text (meaning.operand_value registers.now operand.now) ≡ false → IsOk result }
 {
     match operand {
-        Operand::Register(register) => match registers.get(*register as usize) {
+        Operand::Temp(register) => match registers.get(*register as usize) {
             Some(Some(value)) => Ok(Some(value.copy()?)),
             _ => Ok(None),
         },
-        Operand::None => Ok(Some(Value::None)),
-        Operand::True => Ok(Some(Value::Bool(true))),
-        Operand::False => Ok(Some(Value::Bool(false))),
-        Operand::Int(number) => Ok(Some(Value::Int(Integer::new(*number)))),
-        Operand::Str(text) => Ok(Some(Value::Str(text.share()?))),
+        Operand::Const(constant) => Ok(Some(constant_value(constant)?)),
+    }
+}
+
+// The value of a constant.
+#[inline]
+fn constant_value(constant: &Const) -> Result<Value, AllocError>
+    ensures same { IfOk result (λ v. v ≡ value_of constant.now) }
+    ensures sure { is_text (value_of constant.now) ≡ false → IsOk result }
+{
+    match constant {
+        Const::None => Ok(Value::None),
+        Const::Bool(truth) => Ok(Value::Bool(*truth)),
+        Const::Int(number) => Ok(Value::Int(Integer::new(*number))),
+        Const::Str(text) => Ok(Value::Str(text.share()?)),
     }
 }
 
@@ -215,8 +227,8 @@ impl Execution {
         code: &Code,
         value: &Operand,
     ) -> Result<Option<CEnd>, AllocError>
-        ensures sure { self.old.function ≡ 0 → takes_text (meaning.held self.old.registers value.now) ≡ false → IsOk result }
-        ensures gives { IfOk result (λ end. (w : Outside) → meaning.returns table_rules code.now (state_of self.old w) (meaning.used (meaning.held self.old.registers value.now)) ≡ follows end self.new w) }
+        ensures sure { self.old.function ≡ 0 → takes_text (meaning.operand_value self.old.registers value.now) ≡ false → IsOk result }
+        ensures gives { IfOk result (λ end. (w : Outside) → meaning.returns table_rules code.now (state_of self.old w) (meaning.used (meaning.operand_value self.old.registers value.now)) ≡ follows end self.new w) }
     {
         match held(&self.registers, value)? {
             None | Some(Value::Unset) => Ok(self.undefined()),

@@ -267,7 +267,7 @@ impl Execution {
     #[tactic(auto, using(crate::proofs::InPlace::stores_on, crate::proofs::Places::stays_behind))]
     fn copies(&mut self, to: u64, operand: &Operand) -> bool
         requires { self.old.place + 1 < 2 ^ 64 }
-        ensures goes { result ≡ true → GoesOn (λ c s. meaning.stores s to (meaning.held self.old.registers operand.now)) self.old self.new }
+        ensures goes { result ≡ true → GoesOn (λ c s. meaning.stores s to (meaning.operand_value self.old.registers operand.now)) self.old self.new }
         ensures same { result ≡ false → self.new ≡ self.old }
         ensures stays { Stays self.old self.new }
     {
@@ -301,7 +301,7 @@ impl Execution {
     #[tactic(auto, using(crate::proofs::InPlace::branches_false, crate::proofs::Places::stays_alike))]
     fn chooses(&mut self, goal: Option<u64>, test: &Operand) -> bool
         requires { self.old.place + 1 < 2 ^ 64 }
-        ensures goes { result ≡ true → GoesOn (λ c s. meaning.branches s goal (meaning.held self.old.registers test.now)) self.old self.new }
+        ensures goes { result ≡ true → GoesOn (λ c s. meaning.branches s goal (meaning.operand_value self.old.registers test.now)) self.old self.new }
         ensures same { result ≡ false → self.new ≡ self.old }
         ensures stays { Stays self.old self.new }
     {

@@ -4,10 +4,11 @@ ghost use Rattle.std.specs.Prelude.{◌≡◌, ◌+◌, ◌<◌, ◌^◌, ◌∷
 ghost use Rattle.nu_value.specs.declared.value.Value.TheVariants as value;
 ghost use Rattle.op_forms.specs.declared.end.OpEnd.TheVariants as opend;
 ghost use Rattle.op_forms.specs.declared.op.Op.TheVariants as op;
+ghost use Rattle.op_forms.specs.Constants.{value_of};
 ghost use Rattle.op_forms.specs.Fits.{is_in};
 ghost use Rattle.op_rules.specs.IntRows.{int_row};
 ghost use Rattle.op_rules.specs.Numbers.{computed_end};
-ghost use Rattle.c_meaning.specs.declared.program.Operand.TheVariants as operand;
+ghost use Rattle.code_forms.specs.declared.operand.Operand.TheVariants as operand;
 ghost use Rattle.c_meaning.specs.Step as meaning;
 ghost use Rattle.c_machine.specs.Effects.{answered};
 ghost use Rattle.c_machine.specs.Places.{Keeps, Right, asked, module_names};
@@ -17,14 +18,14 @@ use crate::execution::held;
 use crate::lookup::{Hint, look_up, value_in};
 use c_meaning::{Argument, Operand};
 use nu_value::{Integer, Slots, Value};
-use op_forms::Op;
+use op_forms::{Const, Op};
 use op_rules::{Computed, compute};
 use runtime_table::World;
 
 /// The bool that a register has, if it has one.
 #[inline]
 pub(crate) fn bool_in(registers: &Slots, register: u64) -> Option<bool>
-    ensures { result ≡ bool_of (meaning.held registers.now (operand.Register register)) }
+    ensures { result ≡ bool_of (meaning.operand_value registers.now (operand.Temp register)) }
 {
     match registers.get(register as usize) {
         Some(Some(Value::Bool(truth))) => Some(*truth),
@@ -35,9 +36,9 @@ pub(crate) fn bool_in(registers: &Slots, register: u64) -> Option<bool>
 /// The bool that an operand is, if it is one.
 #[inline]
 pub(crate) fn bool_at(registers: &Slots, operand: &Operand) -> Option<bool>
-    ensures { result ≡ bool_of (meaning.held registers.now operand.now) }
+    ensures { result ≡ bool_of (meaning.operand_value registers.now operand.now) }
 {
-    if let Operand::Register(register) = operand {
+    if let Operand::Temp(register) = operand {
         return bool_in(registers, *register);
     }
     written_bool(operand)
@@ -47,11 +48,21 @@ pub(crate) fn bool_at(registers: &Slots, operand: &Operand) -> Option<bool>
 #[cold]
 #[inline(never)]
 fn written_bool(operand: &Operand) -> Option<bool>
-    ensures { result ≡ bool_of (meaning.held [] operand.now) }
+    ensures { result ≡ bool_of (meaning.operand_value [] operand.now) }
 {
     match operand {
-        Operand::True => Some(true),
-        Operand::False => Some(false),
+        Operand::Temp(_) => None,
+        Operand::Const(constant) => constant_bool(constant),
+    }
+}
+
+// The bool that a constant is, if it is one.
+#[inline]
+fn constant_bool(constant: &Const) -> Option<bool>
+    ensures { result ≡ bool_of (Some (value_of constant.now)) }
+{
+    match constant {
+        Const::Bool(truth) => Some(*truth),
         _ => None,
     }
 }
@@ -59,18 +70,26 @@ fn written_bool(operand: &Operand) -> Option<bool>
 // The integer that an operand is, if it is one.
 #[inline]
 fn int_at(registers: &Slots, operand: &Operand) -> Option<i128>
-    ensures { result ≡ int_of (meaning.held registers.now operand.now) }
+    ensures { result ≡ int_of (meaning.operand_value registers.now operand.now) }
 {
-    if let Operand::Register(register) = operand {
-        return match registers.get(*register as usize) {
+    match operand {
+        Operand::Temp(register) => match registers.get(*register as usize) {
             Some(Some(Value::Int(number))) => Some(number.get()),
             _ => None,
-        };
+        },
+        Operand::Const(constant) => constant_int(constant),
     }
-    if let Operand::Int(number) = operand {
-        return Some(*number);
+}
+
+// The integer that a constant is, if it is one.
+#[inline]
+fn constant_int(constant: &Const) -> Option<i128>
+    ensures { result ≡ int_of (Some (value_of constant.now)) }
+{
+    match constant {
+        Const::Int(number) => Some(*number),
+        _ => None,
     }
-    None
 }
 
 // The truth value of a value that is no text and no object.
@@ -93,7 +112,7 @@ fn truth(value: &Value) -> Option<bool>
 // The truth value of what a register has, if that is no text and no object.
 #[inline]
 fn truth_in(registers: &Slots, register: u64) -> Option<bool>
-    ensures { result ≡ truth_of (meaning.held registers.now (operand.Register register)) }
+    ensures { result ≡ truth_of (meaning.operand_value registers.now (operand.Temp register)) }
 {
     match registers.get(register as usize) {
         Some(Some(value)) => truth(value),
@@ -104,9 +123,9 @@ fn truth_in(registers: &Slots, register: u64) -> Option<bool>
 // The truth value of an operand that is no text and no object.
 #[inline]
 fn truth_at(registers: &Slots, operand: &Operand) -> Option<bool>
-    ensures { result ≡ truth_of (meaning.held registers.now operand.now) }
+    ensures { result ≡ truth_of (meaning.operand_value registers.now operand.now) }
 {
-    if let Operand::Register(register) = operand {
+    if let Operand::Temp(register) = operand {
         return truth_in(registers, *register);
     }
     written_truth(operand)
@@ -116,14 +135,24 @@ fn truth_at(registers: &Slots, operand: &Operand) -> Option<bool>
 #[cold]
 #[inline(never)]
 fn written_truth(operand: &Operand) -> Option<bool>
-    ensures { result ≡ truth_of (meaning.held [] operand.now) }
+    ensures { result ≡ truth_of (meaning.operand_value [] operand.now) }
 {
     match operand {
-        Operand::None => Some(false),
-        Operand::True => Some(true),
-        Operand::False => Some(false),
-        Operand::Int(number) => Some(*number != 0),
-        _ => None,
+        Operand::Temp(_) => None,
+        Operand::Const(constant) => constant_truth(constant),
+    }
+}
+
+// The truth value of a constant that is no text.
+#[inline]
+fn constant_truth(constant: &Const) -> Option<bool>
+    ensures { result ≡ truth_of (Some (value_of constant.now)) }
+{
+    match constant {
+        Const::None => Some(false),
+        Const::Bool(truth) => Some(*truth),
+        Const::Int(number) => Some(*number != 0),
+        Const::Str(_) => None,
     }
 }
 
@@ -166,15 +195,15 @@ fn plain(value: &Value) -> Option<Value>
 /// What a register or a written integer holds, if that is an integer or an object.
 #[inline]
 pub(crate) fn plain_at(registers: &Slots, operand: &Operand) -> Option<Value>
-    ensures { IfSome result (λ v. meaning.held registers.now operand.now ≡ Some v) }
+    ensures { IfSome result (λ v. meaning.operand_value registers.now operand.now ≡ Some v) }
 {
-    if let Operand::Register(register) = operand {
+    if let Operand::Temp(register) = operand {
         return match registers.get(*register as usize) {
             Some(Some(value)) => plain(value),
             _ => None,
         };
     }
-    if let Operand::Int(number) = operand {
+    if let Operand::Const(Const::Int(number)) = operand {
         return Some(Value::Int(Integer::new(*number)));
     }
     None
@@ -183,7 +212,7 @@ pub(crate) fn plain_at(registers: &Slots, operand: &Operand) -> Option<Value>
 /// What an operand holds, if it has a value and there is memory for it.
 #[inline]
 pub(crate) fn held_by(registers: &Slots, operand: &Operand) -> Option<Value>
-    ensures { IfSome result (λ v. meaning.held registers.now operand.now ≡ Some v) }
+    ensures { IfSome result (λ v. meaning.operand_value registers.now operand.now ≡ Some v) }
 {
     match held(registers, operand) {
         Ok(held) => held,

@@ -34,7 +34,7 @@ use Rattle.c_meaning.specs.declared.state.Told.TheVariants as told
 use Rattle.c_meaning.specs.declared.state.Uncaught.{Uncaught}
 use Rattle.c_meaning.specs.Code.{code_of}
 use Rattle.c_meaning.specs.State.{State, printed_in, keeping, in_scene, printing, jumps}
-use Rattle.c_meaning.specs.Step.{held, used, values, number_of, told_of, Site, site_in, placed_at, stores, branches, takes, pends, again, saves, switches, raised, settles, settles_at, begins_body, enters, begins_generator, wakes, begins, began, operates, back, report_begins, report_began, asks_function, asks_report, leaves, uncaught, module_begins, module_over, module_ended, report_ended, ended, body_ended, returns, fails, kept_of, pauses, receives, stored_step, statement_step, placed_step, step}
+use Rattle.c_meaning.specs.Step.{operand_value, used, values, number_of, told_of, Site, site_in, placed_at, stores, branches, takes, pends, again, saves, switches, raised, settles, settles_at, begins_body, enters, begins_generator, wakes, begins, began, operates, back, report_begins, report_began, asks_function, asks_report, leaves, uncaught, module_begins, module_over, module_ended, report_ended, ended, body_ended, returns, fails, kept_of, pauses, receives, stored_step, statement_step, placed_step, step}
 use Rattle.c_meaning.specs.Run.{start, c_run}
 
 module _ (base : List ℕ) where
@@ -211,7 +211,7 @@ module _ (base : List ℕ) where
     receives_grows s x (purpose.Resume g (told.Thrown e) closing number) p = settles_grows s x (Raises e) p
 
     stored_grows : (s : State) (to : ℕ) (what : Stored) (goal : Option ℕ) → IsPrefix base s.printed → Grows (stored_step rules c s to what goal)
-    stored_grows s to (stored.Value a) goal p = stores_grows s to (held s.running.registers a) p
+    stored_grows s to (stored.Value a) goal p = stores_grows s to (operand_value s.running.registers a) p
     stored_grows s to stored.Unset goal p = p
     stored_grows s to (stored.Parameter n) goal p = stores_grows s to (slice_get s.running.arguments n) p
     stored_grows s to (stored.Free n) goal p = stores_grows s to (slice_get s.running.cells n) p
@@ -224,14 +224,14 @@ module _ (base : List ℕ) where
     statement_grows : (s : State) (x : Statement) (goal : Option ℕ) (cases : List (Option ℕ)) → IsPrefix base s.printed → Grows (statement_step rules c s x goal cases)
     statement_grows s (statement.Store to what) goal cases p = stored_grows s to what goal p
     statement_grows s (statement.Goto label) goal cases p = jumps_grows s goal p
-    statement_grows s (statement.Branch test label) goal cases p = branches_grows s goal (held s.running.registers test) p
-    statement_grows s (statement.Again exception label) goal cases p = again_grows s goal (held s.running.registers exception) p
-    statement_grows s (statement.Give a) goal cases p = returns_grows s (used (held s.running.registers a)) p
+    statement_grows s (statement.Branch test label) goal cases p = branches_grows s goal (operand_value s.running.registers test) p
+    statement_grows s (statement.Again exception label) goal cases p = again_grows s goal (operand_value s.running.registers exception) p
+    statement_grows s (statement.Give a) goal cases p = returns_grows s (used (operand_value s.running.registers a)) p
     statement_grows s statement.End goal cases p = body_ended_grows s (Return value.None) p
     statement_grows s statement.Fail goal cases p = fails_grows s s.running.pending p
     statement_grows s (statement.Switch labels) goal cases p = switches_grows s cases (number_of s.running.purpose) p
-    statement_grows s (statement.Save slot a) goal cases p = saves_grows s slot (held s.running.registers a) p
-    statement_grows s (statement.Pause number a) goal cases p = pauses_grows s number (used (held s.running.registers a)) s.running.purpose s.below p
+    statement_grows s (statement.Save slot a) goal cases p = saves_grows s slot (operand_value s.running.registers a) p
+    statement_grows s (statement.Pause number a) goal cases p = pauses_grows s number (used (operand_value s.running.registers a)) s.running.purpose s.below p
 
     placed_grows : (s : State) (x : Option Placed) → IsPrefix base s.printed → Grows (placed_step rules c s x)
     placed_grows s None p = p

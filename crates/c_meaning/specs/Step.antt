@@ -18,10 +18,11 @@ use Rattle.nu_calls.specs.Surroundings.{scene, with_scene, with_frames, kept_at}
 use Rattle.nu_calls.specs.Ends.{Result, Gives, Raises, Stops, Unsaid, Ending, Begun, Over, Calls, Starts, Wakes, Began, begun_by, generator_paused, generator_ended, call_ended, inside, outside, at_line}
 use Rattle.nu_calls.specs.Scripts.{report_function}
 use Rattle.nu_calls.specs.Traceback.{head_text, tail_text}
-use Rattle.c_meaning.specs.declared.program.Argument.{Argument}
-use Rattle.c_meaning.specs.declared.program.Argument.TheVariants as argument
-use Rattle.c_meaning.specs.declared.program.Operand.{Operand}
-use Rattle.c_meaning.specs.declared.program.Operand.TheVariants as operand
+use Rattle.code_forms.specs.declared.operand.Argument.{Argument}
+use Rattle.code_forms.specs.declared.operand.Operand.{Operand}
+pub use Rattle.code_forms.specs.Reading.{both}
+use Rattle.code_forms.specs.Reading.{argument_values}
+use Rattle.code_forms.specs.Reading as reading
 use Rattle.c_meaning.specs.declared.program.Stored.{Stored}
 use Rattle.c_meaning.specs.declared.program.Stored.TheVariants as stored
 use Rattle.c_meaning.specs.declared.program.Statement.{Statement}
@@ -40,14 +41,13 @@ use Rattle.c_meaning.specs.State.{State, halted, undefined, with_around, in_scen
 
 -- WHAT STATEMENTS READ
 
+-- what a register has, Unset too, if it has a value
+abbrev pub register_value : List (Option Value) → ℕ → Option Value
+register_value registers r = option_flatten (slice_get registers r)
+
 -- what an operand holds, Unset too, if it has a value
-abbrev pub held : List (Option Value) → Operand → Option Value
-held registers (operand.Register r) = option_flatten (slice_get registers r)
-held registers operand.None = Some value.None
-held registers operand.True = Some (value.Bool true)
-held registers operand.False = Some (value.Bool false)
-held registers (operand.Int z) = Some (value.Int z)
-held registers (operand.Str text) = Some (value.Str text)
+abbrev pub operand_value : List (Option Value) → Operand → Option Value
+operand_value registers a = reading.operand_value (register_value registers) a
 
 -- a value that is used: Unset is none
 abbrev pub used : Option Value → Option Value
@@ -55,18 +55,11 @@ used (Some value.Unset) = None
 used other = other
 
 abbrev pub argument_value : List (Option Value) → Argument → Option Value
-argument_value registers (argument.Value a) = held registers a
-argument_value registers (argument.Name name) = Some (value.Str name)
-
-abbrev pub both : Option Value → Option (List Value) → Option (List Value)
-both None vs = None
-both (Some v) None = None
-both (Some v) (Some vs) = Some (v ∷ vs)
+argument_value registers a = reading.argument_value (register_value registers) a
 
 -- the arguments of an operation, if all have a value
 abbrev pub values : List (Option Value) → List Argument → Option (List Value)
-values registers [] = Some []
-values registers (a ∷ arguments) = both (argument_value registers a) (values registers arguments)
+values registers arguments = argument_values (register_value registers) arguments
 
 -- the resume number of a generator that goes on
 abbrev pub number_of : Purpose → Option ℕ
@@ -302,7 +295,7 @@ module _ (rules : Rules) (c : Code) where
   receives s x other = undefined s
 
   abbrev pub stored_step : State → ℕ → Stored → Option ℕ → Stepped State
-  stored_step s to (stored.Value a) goal = stores s to (held s.running.registers a)
+  stored_step s to (stored.Value a) goal = stores s to (operand_value s.running.registers a)
   stored_step s to stored.Unset goal = next (put s to value.Unset)
   stored_step s to (stored.Parameter n) goal = stores s to (slice_get s.running.arguments n)
   stored_step s to (stored.Free n) goal = stores s to (slice_get s.running.cells n)
@@ -315,14 +308,14 @@ module _ (rules : Rules) (c : Code) where
   abbrev pub statement_step : State → Statement → Option ℕ → List (Option ℕ) → Stepped State
   statement_step s (statement.Store to what) goal cases = stored_step s to what goal
   statement_step s (statement.Goto label) goal cases = jumps s goal
-  statement_step s (statement.Branch test label) goal cases = branches s goal (held s.running.registers test)
-  statement_step s (statement.Again exception label) goal cases = again s goal (held s.running.registers exception)
-  statement_step s (statement.Give a) goal cases = returns s (used (held s.running.registers a))
+  statement_step s (statement.Branch test label) goal cases = branches s goal (operand_value s.running.registers test)
+  statement_step s (statement.Again exception label) goal cases = again s goal (operand_value s.running.registers exception)
+  statement_step s (statement.Give a) goal cases = returns s (used (operand_value s.running.registers a))
   statement_step s statement.End goal cases = body_ended s (Return value.None)
   statement_step s statement.Fail goal cases = fails s s.running.pending
   statement_step s (statement.Switch labels) goal cases = switches s cases (number_of s.running.purpose)
-  statement_step s (statement.Save slot a) goal cases = saves s slot (held s.running.registers a)
-  statement_step s (statement.Pause number a) goal cases = pauses s number (used (held s.running.registers a)) s.running.purpose s.below
+  statement_step s (statement.Save slot a) goal cases = saves s slot (operand_value s.running.registers a)
+  statement_step s (statement.Pause number a) goal cases = pauses s number (used (operand_value s.running.registers a)) s.running.purpose s.below
 
   abbrev pub placed_step : State → Option Placed → Stepped State
   placed_step s None = undefined s

@@ -8,10 +8,11 @@ use Rattle.nu_value.specs.declared.header.ParamKind.{ParamKind}
 use Rattle.nu_value.specs.declared.header.ParamKind.TheVariants as kind
 use Rattle.nu_value.specs.declared.header.Header as header
 use Rattle.op_forms.specs.Names.{op_name}
-use Rattle.c_meaning.specs.declared.program.Operand.{Operand}
-use Rattle.c_meaning.specs.declared.program.Operand.TheVariants as operand
-use Rattle.c_meaning.specs.declared.program.Argument.{Argument}
-use Rattle.c_meaning.specs.declared.program.Argument.TheVariants as argument
+use Rattle.op_forms.specs.declared.constant.Const.TheVariants as const
+use Rattle.code_forms.specs.declared.operand.Operand.{Operand}
+use Rattle.code_forms.specs.declared.operand.Operand.TheVariants as operand
+use Rattle.code_forms.specs.declared.operand.Argument.{Argument}
+use Rattle.code_forms.specs.declared.operand.Argument.TheVariants as argument
 use Rattle.c_meaning.specs.declared.program.Stored.{Stored}
 use Rattle.c_meaning.specs.declared.program.Stored.TheVariants as stored
 use Rattle.c_meaning.specs.declared.program.Statement.{Statement}
@@ -27,12 +28,12 @@ numbered text next [] = []
 numbered text next (item ∷ items) = text next item ++ numbered text (next + 1) items
 
 abbrev pub operand_pieces : Operand → List (List ℕ)
-operand_pieces (operand.Register n) = codes "r" ∷ decimal n ∷ []
-operand_pieces operand.None = codes "nu_none" ∷ []
-operand_pieces operand.True = codes "nu_true" ∷ []
-operand_pieces operand.False = codes "nu_false" ∷ []
-operand_pieces (operand.Int z) = codes "nu_int(\"" ∷ signed_decimal z ∷ codes "\")" ∷ []
-operand_pieces (operand.Str text) = codes "nu_str(" ∷ string_text text ∷ codes ")" ∷ []
+operand_pieces (operand.Temp n) = codes "r" ∷ decimal n ∷ []
+operand_pieces (operand.Const const.None) = codes "nu_none" ∷ []
+operand_pieces (operand.Const (const.Bool true)) = codes "nu_true" ∷ []
+operand_pieces (operand.Const (const.Bool false)) = codes "nu_false" ∷ []
+operand_pieces (operand.Const (const.Int z)) = codes "nu_int(\"" ∷ signed_decimal z ∷ codes "\")" ∷ []
+operand_pieces (operand.Const (const.Str text)) = codes "nu_str(" ∷ string_text text ∷ codes ")" ∷ []
 
 abbrev pub operand_text : Operand → List ℕ
 operand_text a = joined (operand_pieces a)

@@ -1,18 +1,17 @@
 -- Which programs have a text: numbers in their ranges, declared registers, labels that stand once, the operations' arguments.
-use Rattle.std.specs.Prelude.{◌≡◌, ◌≢◌, ℕ, ◌+◌, ◌<◌, ◌≤◌, ◌^◌, List, [], ◌∷◌, ℤ, pos, negsuc, Bool, true, false, ◌&&◌, Option, Some, None, length, map, nat_eq, nat_le, IsUtf8}
+use Rattle.std.specs.Prelude.{◌≡◌, ◌≢◌, ℕ, ◌+◌, ◌<◌, ◌≤◌, ◌^◌, List, [], ◌∷◌, Bool, true, false, ◌&&◌, length, map, nat_eq, nat_le, IsUtf8}
 use Rattle.std.specs.List.{AllByRecursion, list_any, flat_map}
 use Rattle.std.specs.Str.{bytes_eq}
 use Rattle.nu_value.specs.declared.header.ParamKind.{ParamKind}
 use Rattle.nu_value.specs.declared.header.ParamKind.TheVariants as param
 use Rattle.nu_value.specs.declared.header.Header as header
 use Rattle.op_forms.specs.declared.op.Op.{Op}
-use Rattle.op_forms.specs.declared.signature.ArgumentKind.{ArgumentKind}
-use Rattle.op_forms.specs.declared.signature.ArgumentKind.TheVariants as kind
-use Rattle.op_forms.specs.Signature.{arguments, further}
-use Rattle.c_meaning.specs.declared.program.Operand.{Operand}
-use Rattle.c_meaning.specs.declared.program.Operand.TheVariants as operand
-use Rattle.c_meaning.specs.declared.program.Argument.{Argument}
-use Rattle.c_meaning.specs.declared.program.Argument.TheVariants as argument
+use Rattle.code_forms.specs.declared.operand.Operand.{Operand}
+use Rattle.code_forms.specs.declared.operand.Operand.TheVariants as operand
+use Rattle.code_forms.specs.declared.operand.Argument.{Argument}
+use Rattle.code_forms.specs.declared.operand.Argument.TheVariants as argument
+use Rattle.code_forms.specs.Fits.{IsLine, ConstFits}
+use Rattle.code_forms.specs.Taking.{is_taken}
 use Rattle.c_meaning.specs.declared.program.Stored.{Stored}
 use Rattle.c_meaning.specs.declared.program.Stored.TheVariants as stored
 use Rattle.c_meaning.specs.declared.program.Statement.{Statement}
@@ -21,56 +20,26 @@ use Rattle.c_meaning.specs.declared.program.Line.{Line}
 use Rattle.c_meaning.specs.declared.program.Line.TheVariants as line
 use Rattle.c_meaning.specs.declared.program.Function as function
 use Rattle.c_meaning.specs.declared.program.CProgram as program
-use Rattle.nu_text.specs.Names.{is_among, built_in_names}
 use Rattle.c_meaning.specs.Text.{program_text}
-
--- a whole number from -2^127 to 2^127 - 1
-abbrev pub IsInt : ℤ → Type 0
-IsInt (pos n) = n < 2 ^ 127
-IsInt (negsuc n) = n < 2 ^ 127
 
 -- a number that isn't a line, a function's or a number of functions
 abbrev pub IsNumber : ℕ → Type 0
 IsNumber n = n < 2 ^ 64
 
-abbrev pub IsLine : ℕ → Type 0
-IsLine n = n < 2 ^ 32
-
 -- an operand where so many registers are declared
 abbrev pub IsOperand : ℕ → Operand → Type 0
-IsOperand registers (operand.Register n) = n < registers
-IsOperand registers operand.None = Unit {0}
-IsOperand registers operand.True = Unit {0}
-IsOperand registers operand.False = Unit {0}
-IsOperand registers (operand.Int z) = IsInt z
-IsOperand registers (operand.Str text) = IsUtf8 text
+IsOperand registers (operand.Temp n) = n < registers
+IsOperand registers (operand.Const c) = ConstFits c
 
 abbrev pub IsArgument : ℕ → Argument → Type 0
 IsArgument registers (argument.Value a) = IsOperand registers a
 IsArgument registers (argument.Name name) = IsUtf8 name
 
--- whether an argument is of the kind that an operation takes at its place: a name, or a value
-abbrev pub takes : ArgumentKind → Argument → Bool
-takes kind.Name (argument.Name name) = true
-takes kind.Name (argument.Value a) = false
-takes kind.BuiltinName (argument.Name name) = is_among built_in_names name
-takes kind.BuiltinName (argument.Value a) = false
-takes other (argument.Value a) = true
-takes other (argument.Name name) = false
-
--- whether arguments are those that an operation takes at its first places and at further ones
-abbrev pub all_taken : List ArgumentKind → Option ArgumentKind → List Argument → Bool
-all_taken (k ∷ kinds) more (a ∷ more_arguments) = takes k a && all_taken kinds more more_arguments
-all_taken (k ∷ kinds) more [] = false
-all_taken [] more [] = true
-all_taken [] None (a ∷ more_arguments) = false
-all_taken [] (Some k) (a ∷ more_arguments) = takes k a && all_taken [] (Some k) more_arguments
-
 -- an operation with its arguments
 pub record IsOperation (registers : ℕ) (o : Op) (at : ℕ) (given : List Argument) (fail : ℕ) : Type 0 where
   pub line : IsLine at
   pub each : AllByRecursion (IsArgument registers) given
-  pub taken : all_taken (arguments o) (further o) given ≡ true
+  pub taken : is_taken o given ≡ true
   pub label : IsNumber fail
 
 abbrev pub IsStored : ℕ → Stored → Type 0

@@ -11,8 +11,9 @@ mod state;
 ghost use Rattle.c_meaning.specs.Laws.{RunsAreMonotone};
 
 pub use code::{Body, Code, Placed};
+pub use code_forms::{Argument, Operand};
 pub use nu_run::End as CEnd;
-pub use program::{Argument, CProgram, Function, Line, Operand, Statement, Stored};
+pub use program::{CProgram, Function, Line, Statement, Stored};
 pub use state::{Activation, Kept, Purpose, Told, Uncaught};
 
 /// A larger bound prints no less, and an end stays.

@@ -1,27 +1,10 @@
 //! Programs of the C text.
 
+use code_forms::{Argument, Operand};
 use nu_text::RcStr;
 use nu_value::Header;
 use op_forms::Op;
 use sqlite_items::Items;
-
-/// An operand: a register or a constant.
-#[derive(Drop)]
-pub enum Operand {
-    Register(u64),
-    None,
-    True,
-    False,
-    Int(i128),
-    Str(RcStr),
-}
-
-/// An argument of an operation.
-#[derive(Drop)]
-pub enum Argument {
-    Value(Operand),
-    Name(RcStr),
-}
 
 /// What a statement stores in a register.
 #[derive(Drop)]

@@ -2,8 +2,8 @@
 use Rattle.std.proofs.Common.{ℕ, ◌^◌, List, []}
 use Rattle.std.specs.Prelude.{codes}
 use Rattle.op_forms.specs.declared.op.Op.{Op}
-use Rattle.c_meaning.specs.declared.program.Operand.{Operand}
-use Rattle.c_meaning.specs.declared.program.Argument.{Argument}
+use Rattle.code_forms.specs.declared.operand.Operand.{Operand}
+use Rattle.code_forms.specs.declared.operand.Argument.{Argument}
 use Rattle.c_meaning.specs.declared.program.Stored.{Stored}
 use Rattle.c_meaning.specs.declared.program.Stored.TheVariants as stored
 use Rattle.c_meaning.specs.declared.program.Statement.{Statement}

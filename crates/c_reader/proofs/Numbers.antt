@@ -6,7 +6,7 @@ use Rattle.std.specs.Int.{w128}
 use Rattle.std.proofs.lemmas.Int.{to_z-of_z}
 use Rattle.nu_text.specs.Pieces.{before}
 use Rattle.nu_text.specs.Decimals.{starts_digit, ends_decimal, DecimalStands}
-use Rattle.c_meaning.specs.Written.{IsInt}
+use Rattle.code_forms.specs.Fits.{IsInt}
 use Rattle.c_reader.specs.Pieces.{BareStands, NumberStands, FieldStands, IntStands}
 use Rattle.nu_text.proofs.Decimals.{IsShort, decimal_both, signed_both, ends_there, decimal_starts}
 

@@ -7,10 +7,13 @@ use Rattle.nu_text.specs.Decimals.{starts_digit, ends_decimal}
 use Rattle.nu_text.proofs.Pieces.{before_is}
 use Rattle.nu_text.proofs.Strings.{string_both}
 use Rattle.nu_text.proofs.Decimals.{decimal_both, ends_there}
-use Rattle.c_meaning.specs.declared.program.Operand.{Operand}
-use Rattle.c_meaning.specs.declared.program.Operand.TheVariants as operand
-use Rattle.c_meaning.specs.declared.program.Argument.{Argument}
-use Rattle.c_meaning.specs.declared.program.Argument.TheVariants as argument
+use Rattle.op_forms.specs.declared.constant.Const.{Const}
+use Rattle.op_forms.specs.declared.constant.Const.TheVariants as const
+use Rattle.code_forms.specs.declared.operand.Operand.{Operand}
+use Rattle.code_forms.specs.declared.operand.Operand.TheVariants as operand
+use Rattle.code_forms.specs.declared.operand.Argument.{Argument}
+use Rattle.code_forms.specs.declared.operand.Argument.TheVariants as argument
+use Rattle.code_forms.specs.Fits.{ConstFits}
 use Rattle.c_meaning.specs.Text.{operand_pieces, operand_text, argument_pieces}
 use Rattle.c_meaning.specs.Written.{IsOperand, IsArgument}
 use Rattle.c_reader.specs.Pieces.{StringStands, NumberStands, FieldStands}
@@ -18,56 +21,80 @@ use Rattle.c_reader.specs.Statements.{IsNotFront, EndsOperand, OperandStands, En
 use Rattle.c_reader.proofs.Numbers.{same_rest, int_both, number_both, field_both, wide}
 
 -- a text constant without its closing piece
-pub no_close : (registers : ℕ) (text behind bytes after : List ℕ) → text ≡ codes "nu_str(" ++ behind → StringStands behind bytes after → IsNotFront (codes ")") after → (b rest : List ℕ) → OperandStands registers text (operand.Str b) rest → ⊥
+pub no_close : (registers : ℕ) (text behind bytes after : List ℕ) → text ≡ codes "nu_str(" ++ behind → StringStands behind bytes after → IsNotFront (codes ")") after → (b rest : List ℕ) → OperandStands registers text (operand.Const (const.Str b)) rest → ⊥
 no_close registers text behind bytes after e s none b rest o =
     none rest (string_both bytes b after (codes ")" ++ rest) (sym s.spelled ∙ ap (drop 7) (sym e ∙ o.spelled))).1
 
--- the form of an operand
+-- whether an operand is a constant
 abbrev pub operand_tag : Operand → ℕ
-operand_tag (operand.Register n) = 0
-operand_tag operand.None = 110
-operand_tag operand.True = 116
-operand_tag operand.False = 102
-operand_tag (operand.Int z) = 105
-operand_tag (operand.Str text) = 115
+operand_tag (operand.Temp n) = 0
+operand_tag (operand.Const c) = 1
 
 abbrev pub operand_tag_of : List ℕ → ℕ
-operand_tag_of text = cond (nat_eq (get_or text 0 0) 114) 0 (get_or text 3 0)
+operand_tag_of text = cond (nat_eq (get_or text 0 0) 114) 0 1
 
 operand_tag_is : (a : Operand) (rest : List ℕ) → operand_tag_of (before (operand_pieces a) rest) ≡ operand_tag a
-operand_tag_is (operand.Register n) rest = refl
-operand_tag_is operand.None rest = refl
-operand_tag_is operand.True rest = refl
-operand_tag_is operand.False rest = refl
-operand_tag_is (operand.Int z) rest = refl
-operand_tag_is (operand.Str text) rest = refl
+operand_tag_is (operand.Temp n) rest = refl
+operand_tag_is (operand.Const const.None) rest = refl
+operand_tag_is (operand.Const (const.Bool true)) rest = refl
+operand_tag_is (operand.Const (const.Bool false)) rest = refl
+operand_tag_is (operand.Const (const.Int z)) rest = refl
+operand_tag_is (operand.Const (const.Str text)) rest = refl
+
+-- the form of a constant
+abbrev constant_tag : Const → ℕ
+constant_tag const.None = 0
+constant_tag (const.Bool b) = 1
+constant_tag (const.Int z) = 2
+constant_tag (const.Str text) = 3
+
+abbrev tag_of_letter : ℕ → ℕ
+tag_of_letter l = cond (nat_eq l 110) 0 (cond (nat_eq l 105) 2 (cond (nat_eq l 115) 3 1))
+
+abbrev constant_tag_of : List ℕ → ℕ
+constant_tag_of text = tag_of_letter (get_or text 3 0)
+
+constant_tag_is : (c : Const) (rest : List ℕ) → constant_tag_of (before (operand_pieces (operand.Const c)) rest) ≡ constant_tag c
+constant_tag_is const.None rest = refl
+constant_tag_is (const.Bool true) rest = refl
+constant_tag_is (const.Bool false) rest = refl
+constant_tag_is (const.Int z) rest = refl
+constant_tag_is (const.Str text) rest = refl
+
+bool_both : (a b : Bool) (x y : List ℕ) → before (operand_pieces (operand.Const (const.Bool a))) x ≡ before (operand_pieces (operand.Const (const.Bool b))) y → (operand.Const (const.Bool a) ≡ operand.Const (const.Bool b)) × (x ≡ y)
+bool_both true true x y e = (refl, ap (drop 7) e)
+bool_both false false x y e = (refl, ap (drop 8) e)
+bool_both true false x y e = let t : 116 ≡ 102 = ap (λ l. get_or l 3 0) e in absurd (omega (arith, t))
+bool_both false true x y e = let t : 102 ≡ 116 = ap (λ l. get_or l 3 0) e in absurd (omega (arith, t))
+
+constant_both : (c d : Const) (x y : List ℕ) → ConstFits c → ConstFits d → before (operand_pieces (operand.Const c)) x ≡ before (operand_pieces (operand.Const d)) y → (operand.Const c ≡ operand.Const d) × (x ≡ y)
+constant_both c d x y p q e = go c d p q e (sym (constant_tag_is c x) ∙ ap constant_tag_of e ∙ constant_tag_is d y)
+  where
+    go : (c d : Const) → ConstFits c → ConstFits d → before (operand_pieces (operand.Const c)) x ≡ before (operand_pieces (operand.Const d)) y → constant_tag c ≡ constant_tag d → (operand.Const c ≡ operand.Const d) × (x ≡ y)
+    go const.None const.None p q e same = (refl, ap (drop 7) e)
+    go (const.Bool a) (const.Bool b) p q e same = bool_both a b x y e
+    go (const.Int m) (const.Int n) p q e same =
+        let both = int_both (codes "\")") (signed_decimal m ++ (codes "\")" ++ x)) x y m n refl (record { fits = p; spelled = refl }) (record { fits = q; spelled = ap (drop 8) e }) in
+        (ap (λ z. operand.Const (const.Int z)) both.0, both.1)
+    go (const.Str s) (const.Str t) p q e same =
+        let both = string_both s t (codes ")" ++ x) (codes ")" ++ y) (ap (drop 7) e) in
+        (ap (λ t. operand.Const (const.Str t)) both.0, ap (drop 1) both.1)
+    go c d p q e same = absurd (omega (arith, same))
 
 pub operand_both : (registers : ℕ) (a b : Operand) (x y : List ℕ) → registers ≤ 2 ^ 64 → IsOperand registers a → IsOperand registers b → EndsOperand a x → EndsOperand b y → before (operand_pieces a) x ≡ before (operand_pieces b) y → (a ≡ b) × (x ≡ y)
 operand_both registers a b x y small p q g h e = go a b p q g h e (sym (operand_tag_is a x) ∙ ap operand_tag_of e ∙ operand_tag_is b y)
   where
     go : (a b : Operand) → IsOperand registers a → IsOperand registers b → EndsOperand a x → EndsOperand b y → before (operand_pieces a) x ≡ before (operand_pieces b) y → operand_tag a ≡ operand_tag b → (a ≡ b) × (x ≡ y)
-    go (operand.Register m) (operand.Register n) p q g h e same =
+    go (operand.Temp m) (operand.Temp n) p q g h e same =
         let both = decimal_both m n x y (wide m (omega (arith, p, small))) (wide n (omega (arith, q, small))) g h (ap (drop 1) e) in
-        (ap operand.Register both.0, both.1)
-    go operand.None operand.None p q g h e same = (refl, ap (drop 7) e)
-    go operand.True operand.True p q g h e same = (refl, ap (drop 7) e)
-    go operand.False operand.False p q g h e same = (refl, ap (drop 8) e)
-    go (operand.Int m) (operand.Int n) p q g h e same =
-        let both = int_both (codes "\")") (signed_decimal m ++ (codes "\")" ++ x)) x y m n refl (record { fits = p; spelled = refl }) (record { fits = q; spelled = ap (drop 8) e }) in
-        (ap operand.Int both.0, both.1)
-    go (operand.Str s) (operand.Str t) p q g h e same =
-        let both = string_both s t (codes ")" ++ x) (codes ")" ++ y) (ap (drop 7) e) in
-        (ap operand.Str both.0, ap (drop 1) both.1)
+        (ap operand.Temp both.0, both.1)
+    go (operand.Const c) (operand.Const d) p q g h e same = constant_both c d x y p q e
     go a b p q g h e same = absurd (omega (arith, same))
 
 -- where no digit follows each operand ends
 pub ends_all : (a : Operand) (rest : List ℕ) → starts_digit rest ≡ false → EndsOperand a rest
-ends_all (operand.Register n) rest e = e
-ends_all operand.None rest e = tt
-ends_all operand.True rest e = tt
-ends_all operand.False rest e = tt
-ends_all (operand.Int z) rest e = tt
-ends_all (operand.Str text) rest e = tt
+ends_all (operand.Temp n) rest e = e
+ends_all (operand.Const c) rest e = tt
 
 -- an operand that is read, against one that stands there
 pub operand_cut : (registers : ℕ) (text : List ℕ) (a b : Operand) (x y : List ℕ) → registers ≤ 2 ^ 64 → OperandStands registers text a x → IsOperand registers b → starts_digit y ≡ false → text ≡ operand_text b ++ y → (a ≡ b) × (x ≡ y)
@@ -90,12 +117,12 @@ argument_tag_of text = cond (nat_eq (get_or text 2 0) 34) 1 0
 
 argument_tag_is : (a : Argument) (rest : List ℕ) → argument_tag_of (before (argument_pieces a) rest) ≡ argument_tag a
 argument_tag_is (argument.Name name) rest = refl
-argument_tag_is (argument.Value (operand.Register n)) rest = refl
-argument_tag_is (argument.Value operand.None) rest = refl
-argument_tag_is (argument.Value operand.True) rest = refl
-argument_tag_is (argument.Value operand.False) rest = refl
-argument_tag_is (argument.Value (operand.Int z)) rest = refl
-argument_tag_is (argument.Value (operand.Str text)) rest = refl
+argument_tag_is (argument.Value (operand.Temp n)) rest = refl
+argument_tag_is (argument.Value (operand.Const const.None)) rest = refl
+argument_tag_is (argument.Value (operand.Const (const.Bool true))) rest = refl
+argument_tag_is (argument.Value (operand.Const (const.Bool false))) rest = refl
+argument_tag_is (argument.Value (operand.Const (const.Int z))) rest = refl
+argument_tag_is (argument.Value (operand.Const (const.Str text))) rest = refl
 
 pub argument_both : (registers : ℕ) (a b : Argument) (x y : List ℕ) → registers ≤ 2 ^ 64 → IsArgument registers a → IsArgument registers b → EndsArgument a x → EndsArgument b y → before (argument_pieces a) x ≡ before (argument_pieces b) y → (a ≡ b) × (x ≡ y)
 argument_both registers a b x y small p q g h e = go a b p q g h e (sym (argument_tag_is a x) ∙ ap argument_tag_of e ∙ argument_tag_is b y)

@@ -8,12 +8,13 @@ use Rattle.nu_text.proofs.Pieces.{before_is}
 use Rattle.nu_text.proofs.Decimals.{decimal_both}
 use Rattle.op_forms.specs.declared.op.Op.{Op}
 use Rattle.op_forms.specs.Names.{op_name}
-use Rattle.c_meaning.specs.declared.program.Argument.{Argument}
-use Rattle.c_meaning.specs.declared.program.Argument.TheVariants as argument
+use Rattle.code_forms.specs.declared.operand.Argument.{Argument}
+use Rattle.code_forms.specs.declared.operand.Argument.TheVariants as argument
 use Rattle.c_meaning.specs.declared.program.Stored.TheVariants as stored
 use Rattle.c_meaning.specs.Text.{argument_pieces, argument_text, fail_piece}
 use Rattle.op_forms.specs.Signature.{arguments, further}
-use Rattle.c_meaning.specs.Written.{IsArgument, all_taken}
+use Rattle.code_forms.specs.Taking.{all_taken}
+use Rattle.c_meaning.specs.Written.{IsArgument}
 use Rattle.c_reader.specs.Pieces.{BareStands, FieldStands}
 use Rattle.c_reader.specs.Statements.{IsNotFront, ArgumentStands, ArgumentsStand, NameStands, HeadStands, StoredStands}
 use Rattle.c_reader.proofs.Names.{name_both}

@@ -10,8 +10,9 @@ use Rattle.nu_text.proofs.Decimals.{decimal_starts, nonempty}
 use Rattle.op_forms.specs.declared.op.Op.{Op}
 use Rattle.op_forms.specs.declared.op.Op.TheVariants as op
 use Rattle.op_forms.specs.Names.{op_name}
-use Rattle.c_meaning.specs.declared.program.Operand.{Operand}
-use Rattle.c_meaning.specs.declared.program.Operand.TheVariants as operand
+use Rattle.op_forms.specs.declared.constant.Const.TheVariants as const
+use Rattle.code_forms.specs.declared.operand.Operand.{Operand}
+use Rattle.code_forms.specs.declared.operand.Operand.TheVariants as operand
 use Rattle.c_meaning.specs.declared.program.Stored.{Stored}
 use Rattle.c_meaning.specs.declared.program.Stored.TheVariants as stored
 use Rattle.c_meaning.specs.declared.program.Statement.{Statement}
@@ -128,12 +129,12 @@ stored_tag_of text = cond (nat_eq (get_or text 0 0) 114) 0 (word_tag (word (drop
 
 value_tag : (a : Operand) (x : List ℕ) → stored_tag_of (operand_text a ++ (codes ";\n" ++ x)) ≡ 0
 unfolding stored_tag_of word_tag
-value_tag (operand.Register n) x = refl
-value_tag operand.None x = refl
-value_tag operand.True x = refl
-value_tag operand.False x = refl
-value_tag (operand.Int z) x = refl
-value_tag (operand.Str text) x = refl
+value_tag (operand.Temp n) x = refl
+value_tag (operand.Const const.None) x = refl
+value_tag (operand.Const (const.Bool true)) x = refl
+value_tag (operand.Const (const.Bool false)) x = refl
+value_tag (operand.Const (const.Int z)) x = refl
+value_tag (operand.Const (const.Str text)) x = refl
 
 op_stored : (o : Op) (rest : List ℕ) → stored_tag_of (codes "nu_" ++ (op_name o ++ (codes "(fr, " ++ rest))) ≡ 7
 unfolding stored_tag_of

@@ -4,8 +4,8 @@ use Rattle.std.proofs.Math.Seq.{drop-cons}
 use Rattle.std.proofs.lemmas.Bool.Decides.{nat_tests}
 use Rattle.op_forms.specs.declared.signature.ArgumentKind.{ArgumentKind}
 use Rattle.op_forms.specs.declared.signature.ArgumentKind.TheVariants as kind
-use Rattle.c_meaning.specs.declared.program.Argument.{Argument}
-use Rattle.c_meaning.specs.Written.{all_taken}
+use Rattle.code_forms.specs.declared.operand.Argument.{Argument}
+use Rattle.code_forms.specs.Taking.{all_taken}
 
 pub missing : (kinds : List ArgumentKind) (more : Option ArgumentKind) (i : ℕ) (left : List Argument) → i < length kinds → length left < 1 → all_taken (drop i kinds) more left ≡ false
 missing kinds more i [] h short = ap (λ l. all_taken l more []) (drop-cons kinds i kind.Name h)

@@ -8,7 +8,8 @@ use Rattle.nu_value.specs.declared.header.Header as header
 use Rattle.c_meaning.specs.declared.program.Line.{Line}
 use Rattle.c_meaning.specs.declared.program.Function as function
 use Rattle.c_meaning.specs.Text.{params_text, kind_text, line_text, declaration_text, header_pieces, function_text}
-use Rattle.c_meaning.specs.Written.{IsNumber, IsLine, IsBodyLine, Once, label_of, IsParam, in_order, IsHeader, IsFunction}
+use Rattle.code_forms.specs.Fits.{IsLine}
+use Rattle.c_meaning.specs.Written.{IsNumber, IsBodyLine, Once, label_of, IsParam, in_order, IsHeader, IsFunction}
 use Rattle.c_reader.specs.Statements.{IsNotFront}
 
 -- an opening piece, the decimal of a number, and a closing piece

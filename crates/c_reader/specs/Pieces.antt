@@ -5,7 +5,7 @@ use Rattle.std.specs.Fmt.{signed_decimal}
 use Rattle.nu_text.specs.Decimals.{starts_digit}
 use Rattle.nu_text.specs.Pieces.{before}
 use Rattle.nu_text.specs.Strings.{string_text}
-use Rattle.c_meaning.specs.Written.{IsInt}
+use Rattle.code_forms.specs.Fits.{IsInt}
 
 -- the decimal of a number below a limit, which ends there
 pub record BareStands (limit : ℕ) (text : List ℕ) (n : ℕ) (rest : List ℕ) : Type 0 where

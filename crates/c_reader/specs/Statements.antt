@@ -5,15 +5,16 @@ use Rattle.nu_text.specs.Decimals.{starts_digit}
 use Rattle.nu_text.specs.Pieces.{before}
 use Rattle.op_forms.specs.declared.op.Op.{Op}
 use Rattle.op_forms.specs.Names.{op_name}
-use Rattle.c_meaning.specs.declared.program.Operand.{Operand}
-use Rattle.c_meaning.specs.declared.program.Operand.TheVariants as operand
-use Rattle.c_meaning.specs.declared.program.Argument.{Argument}
-use Rattle.c_meaning.specs.declared.program.Argument.TheVariants as argument
+use Rattle.code_forms.specs.declared.operand.Operand.{Operand}
+use Rattle.code_forms.specs.declared.operand.Operand.TheVariants as operand
+use Rattle.code_forms.specs.declared.operand.Argument.{Argument}
+use Rattle.code_forms.specs.declared.operand.Argument.TheVariants as argument
 use Rattle.c_meaning.specs.declared.program.Stored.{Stored}
 use Rattle.c_meaning.specs.declared.program.Statement.{Statement}
 use Rattle.c_meaning.specs.declared.program.Line.{Line}
 use Rattle.c_meaning.specs.Text.{operand_pieces, operand_text, argument_pieces, argument_text, stored_pieces, statement_pieces, line_pieces, case_pieces, cases_text}
-use Rattle.c_meaning.specs.Written.{IsNumber, IsLine, IsOperand, IsArgument, IsStored, IsStatement, IsBodyLine}
+use Rattle.code_forms.specs.Fits.{IsLine}
+use Rattle.c_meaning.specs.Written.{IsNumber, IsOperand, IsArgument, IsStored, IsStatement, IsBodyLine}
 
 -- a piece doesn't stand at the front of a text
 abbrev pub IsNotFront : List ℕ → List ℕ → Type 0
@@ -21,12 +22,8 @@ IsNotFront piece text = (rest : List ℕ) → text ≡ piece ++ rest → ⊥
 
 -- where an operand ends: a register's number ends there
 abbrev pub EndsOperand : Operand → List ℕ → Type 0
-EndsOperand (operand.Register n) rest = starts_digit rest ≡ false
-EndsOperand operand.None rest = Unit {0}
-EndsOperand operand.True rest = Unit {0}
-EndsOperand operand.False rest = Unit {0}
-EndsOperand (operand.Int z) rest = Unit {0}
-EndsOperand (operand.Str text) rest = Unit {0}
+EndsOperand (operand.Temp n) rest = starts_digit rest ≡ false
+EndsOperand (operand.Const c) rest = Unit {0}
 
 pub record OperandStands (registers : ℕ) (text : List ℕ) (a : Operand) (rest : List ℕ) : Type 0 where
   pub is : IsOperand registers a

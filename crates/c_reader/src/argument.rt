@@ -3,8 +3,8 @@
 ghost use Rattle.std.specs.Prelude.{◌≡◌, ◌++◌, ℕ, List, [], IfOk, IfSome, IfNone, false, codes};
 ghost use Rattle.nu_text.specs.Decimals.{starts_digit};
 ghost use Rattle.op_forms.specs.Signature.{arguments, further};
-ghost use Rattle.c_meaning.specs.declared.program.Argument.{Argument};
-ghost use Rattle.c_meaning.specs.Written.{takes, all_taken};
+ghost use Rattle.code_forms.specs.declared.operand.Argument.{Argument};
+ghost use Rattle.code_forms.specs.Taking.{takes, all_taken};
 ghost use Rattle.c_reader.specs.Statements.{BareArgumentStands, ArgumentStands, ArgumentsStand};
 
 use crate::number::{after, begins_with_digit};

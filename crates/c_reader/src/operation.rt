@@ -3,7 +3,7 @@
 ghost use Rattle.std.specs.Prelude.{◌≡◌, ◌++◌, ℕ, List, IfOk, IfSome, IfNone};
 ghost use Rattle.std.specs.List.{AllByRecursion};
 ghost use Rattle.op_forms.specs.declared.op.Op.{Op};
-ghost use Rattle.c_meaning.specs.declared.program.Argument.{Argument};
+ghost use Rattle.code_forms.specs.declared.operand.Argument.{Argument};
 ghost use Rattle.c_meaning.specs.declared.program.Stored.TheVariants as stored;
 ghost use Rattle.c_reader.specs.Statements.{NameStands, HeadStands, StoredStands};
 

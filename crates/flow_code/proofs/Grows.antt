@@ -17,7 +17,7 @@ use Rattle.nu_calls.specs.Traceback.{head_text}
 use Rattle.nu_calls.specs.Ends.{Result, Gives, Raises, Stops, Unsaid, Ending, Begun, Over, Calls, Starts, Wakes, Began, begun_by, generator_paused, generator_ended, call_ended, outside}
 use Rattle.flow_code.specs.declared.statement.Statement.{Statement}
 use Rattle.flow_code.specs.declared.statement.Statement.TheVariants as flat
-use Rattle.flow_code.specs.Machine.{Waiting, Bottom, Builtins, Script, Report, Stack, Base, Called, Resumed, State, Functions, undefined, using, having, settles, ends, enters, told, goes_on, begins, operates, report_begins, report_began, asks_function, reports, uncaught, script_begins, module_ended, base_ended, body_ended, paused, branches, pending_exception, again, held, values, acts, acts_at, step, printed}
+use Rattle.flow_code.specs.Machine.{Waiting, Bottom, Builtins, Script, Report, Stack, Base, Called, Resumed, State, Functions, undefined, using, having, settles, ends, enters, told, goes_on, begins, operates, report_begins, report_began, asks_function, reports, uncaught, script_begins, module_ended, base_ended, body_ended, paused, branches, pending_exception, again, operand_value, values, acts, acts_at, step, printed}
 use Rattle.flow_code.specs.Run.{begun, machine_run}
 
 module _ {L : Type 0} (m : Functions L) (base : List ℕ) where
@@ -142,19 +142,19 @@ module _ {L : Type 0} (m : Functions L) (base : List ℕ) where
   again_grows s l (value.Obj n) p = pending_grows s l n (slice_get s.around.world.heap n) p
 
   acts_grows : (s : State L) (next : L) (x : Statement) → IsPrefix base s.out → Grows (acts m s next x)
-  acts_grows s next (flat.Store to a) p = having_grows (held s.frame a) s.out _ p (λ v. p)
+  acts_grows s next (flat.Store to a) p = having_grows (operand_value s.frame a) s.out _ p (λ v. p)
   acts_grows s next (flat.Unset to) p = p
   acts_grows s next (flat.Parameter to i) p = having_grows (slice_get s.frame.given i) s.out _ p (λ v. p)
   acts_grows s next (flat.Free to i) p = having_grows (slice_get s.frame.cells i) s.out _ p (λ v. p)
   acts_grows s next (flat.Do to line o args fail) p = having_grows (values s.frame args) s.out _ p (λ vs. operates_grows _ s.stack s.around s.out o vs p)
   acts_grows s next (flat.Goto l) p = p
-  acts_grows s next (flat.Branch test l) p = using_grows (held s.frame test) s.out _ p (λ v. branches_grows s next l v p)
+  acts_grows s next (flat.Branch test l) p = using_grows (operand_value s.frame test) s.out _ p (λ v. branches_grows s next l v p)
   acts_grows s next (flat.Caught to) p = having_grows s.pending s.out _ p (λ e. p)
-  acts_grows s next (flat.Again a l) p = using_grows (held s.frame a) s.out _ p (λ v. again_grows s l v p)
-  acts_grows s next (flat.Give a) p = using_grows (held s.frame a) s.out _ p (λ v. body_ended_grows s.frame.code s.stack s.around s.out (Return v) p)
+  acts_grows s next (flat.Again a l) p = using_grows (operand_value s.frame a) s.out _ p (λ v. again_grows s l v p)
+  acts_grows s next (flat.Give a) p = using_grows (operand_value s.frame a) s.out _ p (λ v. body_ended_grows s.frame.code s.stack s.around s.out (Return v) p)
   acts_grows s next flat.End p = body_ended_grows s.frame.code s.stack s.around s.out (Next value.None) p
   acts_grows s next flat.Fail p = having_grows s.pending s.out _ p (λ e. body_ended_grows s.frame.code s.stack s.around s.out (Raised e) p)
-  acts_grows s next (flat.Yield to line a fail) p = using_grows (held s.frame a) s.out _ p (λ v. paused_grows _ v s.stack s.around s.out p)
+  acts_grows s next (flat.Yield to line a fail) p = using_grows (operand_value s.frame a) s.out _ p (λ v. paused_grows _ v s.stack s.around s.out p)
 
   acts_at_grows : (s : State L) (x : Option (Statement × L)) → IsPrefix base s.out → Grows (acts_at m s x)
   acts_at_grows s None p = p

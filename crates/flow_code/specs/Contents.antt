@@ -2,12 +2,10 @@
 use Rattle.std.specs.Prelude.{ℕ, ◌+◌, List, [], ◌∷◌, Bool, if◌then◌else◌}
 use Rattle.op_forms.specs.declared.constant.Const.{Const}
 use Rattle.op_forms.specs.declared.op.Op.{Op}
-use Rattle.flow_code.specs.declared.statement.Argument.{Argument}
-use Rattle.flow_code.specs.declared.statement.Argument.TheVariants as argument
+use Rattle.code_forms.specs.declared.operand.Argument.{Argument}
+use Rattle.code_forms.specs.Contents.{operand_constants, arguments_constants}
 use Rattle.flow_code.specs.declared.statement.Line.{Line}
 use Rattle.flow_code.specs.declared.statement.Line.TheVariants as line
-use Rattle.flow_code.specs.declared.statement.Operand.{Operand}
-use Rattle.flow_code.specs.declared.statement.Operand.TheVariants as operand
 use Rattle.flow_code.specs.declared.statement.Statement.{Statement}
 use Rattle.flow_code.specs.declared.statement.Statement.TheVariants as flat
 
@@ -26,25 +24,13 @@ abbrev pub operations : (Op → List Argument → Bool) → List Line → ℕ
 operations test lines = total (statement_operations test) lines
 
 module _ (test : Const → Bool) where
-  abbrev pub operand_constants : Operand → ℕ
-  operand_constants (operand.Register r) = 0
-  operand_constants (operand.Const c) = if test c then 1 else 0
-
-  abbrev pub argument_constants : Argument → ℕ
-  argument_constants (argument.Value a) = operand_constants a
-  argument_constants (argument.Name name) = 0
-
-  abbrev pub arguments_constants : List Argument → ℕ
-  arguments_constants [] = 0
-  arguments_constants (a ∷ args) = argument_constants a + arguments_constants args
-
   abbrev pub statement_constants : Statement → ℕ
-  statement_constants (flat.Store to a) = operand_constants a
-  statement_constants (flat.Do to line o args fail) = arguments_constants args
-  statement_constants (flat.Branch a l) = operand_constants a
-  statement_constants (flat.Again a l) = operand_constants a
-  statement_constants (flat.Give a) = operand_constants a
-  statement_constants (flat.Yield to line a fail) = operand_constants a
+  statement_constants (flat.Store to a) = operand_constants test a
+  statement_constants (flat.Do to line o args fail) = arguments_constants test args
+  statement_constants (flat.Branch a l) = operand_constants test a
+  statement_constants (flat.Again a l) = operand_constants test a
+  statement_constants (flat.Give a) = operand_constants test a
+  statement_constants (flat.Yield to line a fail) = operand_constants test a
   statement_constants other = 0
 
   -- how many constants pass the test

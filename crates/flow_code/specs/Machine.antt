@@ -12,17 +12,16 @@ use Rattle.nu_value.specs.declared.value.Value.TheVariants as value
 use Rattle.op_forms.specs.declared.end.After.{After}
 use Rattle.op_forms.specs.declared.end.After.TheVariants as after
 use Rattle.op_forms.specs.declared.op.Op.{Op}
-use Rattle.op_forms.specs.Constants.{value_of}
 use Rattle.nu_calls.specs.Surroundings.{Surroundings, scene, with_scene, with_frames, kept_at, with_kept}
 use Rattle.nu_rows.specs.Rows.{End, Next, Raised, Return, Stopped, How, Send, Throw}
 use Rattle.op_forms.specs.Rules.{Rules}
 use Rattle.nu_calls.specs.Ends.{Result, Gives, Raises, Stops, Unsaid, Ending, Begun, Over, Calls, Starts, Wakes, Began, begun_by, generator_paused, generator_ended, call_ended, inside, outside, at_line}
 use Rattle.nu_calls.specs.Scripts.{report_function}
 use Rattle.nu_calls.specs.Traceback.{head_text, tail_text}
-use Rattle.flow_code.specs.declared.statement.Argument.{Argument}
-use Rattle.flow_code.specs.declared.statement.Argument.TheVariants as argument
-use Rattle.flow_code.specs.declared.statement.Operand.{Operand}
-use Rattle.flow_code.specs.declared.statement.Operand.TheVariants as operand
+use Rattle.code_forms.specs.declared.operand.Argument.{Argument}
+use Rattle.code_forms.specs.declared.operand.Operand.{Operand}
+use Rattle.code_forms.specs.Reading.{argument_values}
+use Rattle.code_forms.specs.Reading as reading
 use Rattle.flow_code.specs.declared.statement.Statement.{Statement}
 use Rattle.flow_code.specs.declared.statement.Statement.TheVariants as flat
 
@@ -88,23 +87,12 @@ abbrev pub write : Frame → ℕ → Value → Frame
 write f to v = record { code = f.code; given = f.given; cells = f.cells; registers = put f.registers to v }
 
 -- what an operand holds, Unset too
-abbrev pub held : Frame → Operand → Option Value
-held f (operand.Register r) = f.registers r
-held f (operand.Const c) = Some (value_of c)
-
-abbrev pub argument_value : Frame → Argument → Option Value
-argument_value f (argument.Value a) = held f a
-argument_value f (argument.Name name) = Some (value.Str name)
-
-abbrev pub both : Option Value → Option (List Value) → Option (List Value)
-both (Some v) (Some vs) = Some (v ∷ vs)
-both None vs = None
-both (Some v) None = None
+abbrev pub operand_value : Frame → Operand → Option Value
+operand_value f a = reading.operand_value f.registers a
 
 -- the arguments of an operation, if all have a value
 abbrev pub values : Frame → List Argument → Option (List Value)
-values f [] = Some []
-values f (a ∷ args) = both (argument_value f a) (values f args)
+values f args = argument_values f.registers args
 
 -- the frame with which a function begins: no register has a value
 abbrev pub fresh : ℕ → List Value → List Value → Frame
@@ -250,22 +238,22 @@ module _ {L : Type 0} (m : Functions L) where
 
   -- a statement, with the place behind it
   abbrev pub acts : State L → L → Statement → Stepped (State L)
-  acts s next (flat.Store to a) = having (held s.frame a) (undefined s.out) (λ v. on s next (write s.frame to v))
+  acts s next (flat.Store to a) = having (operand_value s.frame a) (undefined s.out) (λ v. on s next (write s.frame to v))
   acts s next (flat.Unset to) = on s next (write s.frame to value.Unset)
   acts s next (flat.Parameter to i) = having (slice_get s.frame.given i) (undefined s.out) (λ v. on s next (write s.frame to v))
   acts s next (flat.Free to i) = having (slice_get s.frame.cells i) (undefined s.out) (λ v. on s next (write s.frame to v))
   acts s next (flat.Do to line o args fail) =
       having (values s.frame args) (undefined s.out) (λ vs. operates (waits s s.pending to line fail next) s.stack s.around s.out o vs)
   acts s next (flat.Goto l) = on s (m.label s.code l) s.frame
-  acts s next (flat.Branch test l) = using (held s.frame test) (undefined s.out) (branches s next l)
+  acts s next (flat.Branch test l) = using (operand_value s.frame test) (undefined s.out) (branches s next l)
   acts s next (flat.Caught to) =
       having s.pending (undefined s.out) (λ e. More (at s.code next (write s.frame to (value.Obj e)) None s.stack s.around s.out))
-  acts s next (flat.Again a l) = using (held s.frame a) (undefined s.out) (again s l)
-  acts s next (flat.Give a) = using (held s.frame a) (undefined s.out) (λ v. body_ended s.frame.code s.stack s.around s.out (Return v))
+  acts s next (flat.Again a l) = using (operand_value s.frame a) (undefined s.out) (again s l)
+  acts s next (flat.Give a) = using (operand_value s.frame a) (undefined s.out) (λ v. body_ended s.frame.code s.stack s.around s.out (Return v))
   acts s next flat.End = body_ended s.frame.code s.stack s.around s.out (Next value.None)
   acts s next flat.Fail = having s.pending (undefined s.out) (λ e. body_ended s.frame.code s.stack s.around s.out (Raised e))
   acts s next (flat.Yield to line a fail) =
-      using (held s.frame a) (undefined s.out) (λ v. paused (waits s None to line fail next) v s.stack s.around s.out)
+      using (operand_value s.frame a) (undefined s.out) (λ v. paused (waits s None to line fail next) v s.stack s.around s.out)
 
   abbrev pub acts_at : State L → Option (Statement × L) → Stepped (State L)
   acts_at s None = undefined s.out

@@ -1,17 +1,17 @@
 -- The registers of code.
 use Rattle.std.specs.Prelude.{ℕ, suc, max, ◌<◌, List, [], ◌∷◌, ◌++◌}
 use Rattle.std.specs.List.{AllByRecursion}
-use Rattle.flow_code.specs.declared.statement.Argument.{Argument}
-use Rattle.flow_code.specs.declared.statement.Argument.TheVariants as argument
+use Rattle.code_forms.specs.declared.operand.Argument.{Argument}
+use Rattle.code_forms.specs.declared.operand.Argument.TheVariants as argument
 use Rattle.flow_code.specs.declared.statement.Line.{Line}
 use Rattle.flow_code.specs.declared.statement.Line.TheVariants as line
-use Rattle.flow_code.specs.declared.statement.Operand.{Operand}
-use Rattle.flow_code.specs.declared.statement.Operand.TheVariants as operand
+use Rattle.code_forms.specs.declared.operand.Operand.{Operand}
+use Rattle.code_forms.specs.declared.operand.Operand.TheVariants as operand
 use Rattle.flow_code.specs.declared.statement.Statement.{Statement}
 use Rattle.flow_code.specs.declared.statement.Statement.TheVariants as flat
 
 abbrev pub operand_reads : Operand → List ℕ
-operand_reads (operand.Register r) = r ∷ []
+operand_reads (operand.Temp r) = r ∷ []
 operand_reads (operand.Const c) = []
 
 abbrev pub argument_reads : Argument → List ℕ

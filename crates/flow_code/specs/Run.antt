@@ -31,12 +31,12 @@ lines_of (Some f) = f.body
 lines_of None = []
 
 abbrev pub is_there : Bool → Option FlatFunction → Bool
-is_there kind (Some f) = of_kind kind f.generator
+is_there kind (Some f) = of_kind kind f.header.generator
 is_there kind None = false
 
 -- what stands before a function's body
 abbrev pub header : FlatFunction → Header
-header f = record { scope = f.scope; params = f.params; generator = f.generator; line = f.line }
+header f = f.header
 
 -- functions with the lines that are left as places, where `lines` gives those of each
 abbrev pub with_lines : Rules → ℕ → List ℕ → List Header → (Bool → ℕ → Bool) → (ℕ → List Line) → Functions (List Line)

@@ -2,18 +2,13 @@
 
 use crate::statement::Line;
 use nu_text::RcStr;
-use nu_value::Shape;
+use nu_value::Header;
 use sqlite_items::Items;
 
 /// A function.
 #[derive(Drop)]
 pub struct FlatFunction {
-    /// The name of the scope.
-    pub scope: RcStr,
-    pub params: Shape,
-    pub generator: bool,
-    /// The line on which the scope begins, counted from 1.
-    pub line: u32,
+    pub header: Header,
     /// Labels are numbered below this.
     pub labels: u64,
     /// How many registers are declared: those numbered below this.

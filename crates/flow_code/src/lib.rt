@@ -6,8 +6,9 @@ mod statement;
 
 ghost use Rattle.flow_code.specs.Laws.{FlatRunsAreMonotone};
 
+pub use code_forms::{Argument, Operand};
 pub use function::{FlatFunction, FlatScript};
-pub use statement::{Argument, Line, Operand, Statement};
+pub use statement::{Line, Statement};
 
 /// A run of flat code prints no less within a larger bound, and its end stays.
 pub fn flat_runs_are_monotone()

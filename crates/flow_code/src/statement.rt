@@ -1,24 +1,8 @@
 //! Statements and labels.
 
-use nu_text::RcStr;
-use op_forms::{Const, Op};
+use code_forms::{Argument, Operand};
+use op_forms::Op;
 use sqlite_items::Items;
-
-/// What a statement reads.
-#[derive(Drop)]
-pub enum Operand {
-    /// The register of this number.
-    Register(u64),
-    Const(Const),
-}
-
-/// What an operation takes.
-#[derive(Drop)]
-pub enum Argument {
-    Value(Operand),
-    /// A bare name.
-    Name(RcStr),
-}
 
 /// A statement. `to` is the register that it writes, `fail` the label to which an exception leads.
 #[derive(Drop)]

@@ -148,11 +148,11 @@ stands_most params free tree.Stop l = omega (arith, stands_handed params free tr
 stands_most params free (tree.Follow x r) l = omega (arith, stands_follow params free x r l)
 
 pub stands_once : (c : NodeCode) (l : ℕ) → stands l (code_lines c) ≤ 1
-stands_once c l = omega (arith, stands_most (length c.params) c.free (block c.body) l, inside_most l 0 (1 + labels (block c.body)))
+stands_once c l = omega (arith, stands_most (length c.header.params) c.free (block c.body) l, inside_most l 0 (1 + labels (block c.body)))
 
 pub stands_below : (c : NodeCode) (l : ℕ) → 0 < stands l (code_lines c) → l < 1 + labels (block c.body)
 stands_below c l h =
-    let r : l < 0 + (1 + labels (block c.body)) = inside_is l 0 (1 + labels (block c.body)) (omega (arith, h, stands_most (length c.params) c.free (block c.body) l)) in omega (arith, r)
+    let r : l < 0 + (1 + labels (block c.body)) = inside_is l 0 (1 + labels (block c.body)) (omega (arith, h, stands_most (length c.header.params) c.free (block c.body) l)) in omega (arith, r)
 
 -- where the labels of a statement or a block, its fail label, the exits around and 0 are such ones, so is each to which it
 -- leads
@@ -214,4 +214,4 @@ there_function params free (tree.Follow x r) =
     (lead_block (λ l. 0 < stands l (function_lines params free b)) (there 0 (omega arith)) b 1 0 [] (last_lines b) (there 0 (omega arith)) tt (λ j p q. there j (omega arith)) (tt, (tt, tt))))
 
 pub there_code : (c : NodeCode) → Lead (λ l. 0 < stands l (code_lines c)) (code_lines c)
-there_code c = there_function (length c.params) c.free (block c.body)
+there_code c = there_function (length c.header.params) c.free (block c.body)

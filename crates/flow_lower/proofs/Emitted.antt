@@ -2,7 +2,7 @@
 use Rattle.std.proofs.lemmas.List.{length-append}
 use Rattle.std.proofs.Common.{◌<◌, ◌-◌, drop, append-nil, subst, ◌≡◌, ◌≢◌, ℕ, zero, suc, ◌+◌, ◌≤◌, List, [], ◌∷◌, ◌++◌, length, get_or, refl, sym, ap, ◌∙◌, arith, append_assoc}
 use Rattle.node_tree.specs.declared.node.Node.{Node, If, Loop, Catch}
-use Rattle.node_tree.specs.declared.node.Operand.{Operand}
+use Rattle.code_forms.specs.declared.operand.Operand.{Operand}
 use Rattle.node_tree.specs.Tree.{form, block}
 use Rattle.node_tree.proofs.Forms.{form_loop, form_if, form_catch}
 use Rattle.node_tree.specs.declared.script.NodeCode.{NodeCode}
@@ -12,7 +12,7 @@ use Rattle.flow_code.specs.declared.statement.Statement.{Statement}
 use Rattle.flow_code.specs.declared.statement.Line.TheVariants.{Label, Do}
 use Rattle.flow_code.specs.declared.statement.Statement.TheVariants as flat
 use Rattle.flow_lower.specs.Correct.{LowersCode, LowersEach}
-use Rattle.flow_lower.specs.Lower.{form_labels, labels, operand_of, exit, exit_of, form_lines, block_lines, copies, fail_lines, last_lines, function_lines}
+use Rattle.flow_lower.specs.Lower.{form_labels, labels, exit, exit_of, form_lines, block_lines, copies, fail_lines, last_lines, function_lines}
 
 exit_at : (xs : List ℕ) (k : ℕ) → get_or xs k 0 ≡ exit xs k
 exit_at [] k = refl
@@ -40,7 +40,7 @@ pub record Emits (o p : List Line) (xs : List Node) (k k' fail : ℕ) (ex ex' : 
   pub drawn : k' ≡ k + labels (block xs)
   pub exits : ex' ≡ ex
 
-pub emit_if : (t : Operand) (a : _) (fail k k1 k2 k3 k4 first end : ℕ) (ex ex1 ex2 : List ℕ) (ys zs : List Node) (o0 o1 o2 o3 o4 o5 o6 : List Line) → a ≡ operand_of t → first ≡ k → k1 ≡ k + 1 → end ≡ k1 → k2 ≡ k1 + 1 → o1 ≡ o0 ++ Do (flat.Branch a first) ∷ [] → Emits o1 o2 zs k2 k3 fail ex ex1 → o3 ≡ o2 ++ Do (flat.Goto end) ∷ [] → o4 ≡ o3 ++ Label first ∷ [] → Emits o4 o5 ys k3 k4 fail ex1 ex2 → o6 ≡ o5 ++ Label end ∷ [] → (mid : List Line) → o6 ++ mid ≡ o0 ++ form_lines (form (If t ys zs)) k fail ex mid
+pub emit_if : (t : Operand) (a : _) (fail k k1 k2 k3 k4 first end : ℕ) (ex ex1 ex2 : List ℕ) (ys zs : List Node) (o0 o1 o2 o3 o4 o5 o6 : List Line) → a ≡ t → first ≡ k → k1 ≡ k + 1 → end ≡ k1 → k2 ≡ k1 + 1 → o1 ≡ o0 ++ Do (flat.Branch a first) ∷ [] → Emits o1 o2 zs k2 k3 fail ex ex1 → o3 ≡ o2 ++ Do (flat.Goto end) ∷ [] → o4 ≡ o3 ++ Label first ∷ [] → Emits o4 o5 ys k3 k4 fail ex1 ex2 → o6 ≡ o5 ++ Label end ∷ [] → (mid : List Line) → o6 ++ mid ≡ o0 ++ form_lines (form (If t ys zs)) k fail ex mid
 emit_if t a fail k k1 k2 k3 k4 first end ex ex1 ex2 ys zs o0 o1 o2 o3 o4 o5 o6 ea f1 f2 f3 f4 p1 other p2 p3 then p4 mid =
     let e2 : k2 ≡ k + 2 = omega arith in
     let e1 : end ≡ k + 1 = omega arith in

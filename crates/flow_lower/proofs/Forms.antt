@@ -12,10 +12,10 @@ use Rattle.op_forms.specs.Constants.{value_of}
 use Rattle.nu_rows.specs.Rows.{Next, Leave, Raised, Return, Stopped, Undefined, Step, First, Second, How, Send, Throw, Begin, Back, Effect, Act, does}
 use Rattle.nu_rows.specs.Words.{ends_with}
 use Rattle.nu_calls.specs.Calls.{enlisted, yields}
-use Rattle.node_tree.specs.declared.node.Argument.{Argument}
-use Rattle.node_tree.specs.declared.node.Argument.TheVariants as argument
-use Rattle.node_tree.specs.declared.node.Operand.{Operand}
-use Rattle.node_tree.specs.declared.node.Operand.TheVariants as operand
+use Rattle.code_forms.specs.declared.operand.Argument.{Argument}
+use Rattle.code_forms.specs.declared.operand.Argument.TheVariants as argument
+use Rattle.code_forms.specs.declared.operand.Operand.{Operand}
+use Rattle.code_forms.specs.declared.operand.Operand.TheVariants as operand
 use Rattle.node_tree.specs.Blocks as tree
 use Rattle.node_tree.specs.Nodes as node
 use Rattle.flow_code.specs.declared.statement.Line.{Line}
@@ -23,29 +23,12 @@ use Rattle.flow_code.specs.declared.statement.Line.TheVariants.{Do}
 use Rattle.flow_code.specs.declared.statement.Statement.TheVariants as flat
 use Rattle.flow_code.specs.Machine as machine
 use Rattle.flow_code.specs.Run.{find}
-use Rattle.flow_lower.specs.Lower.{operand_of, argument_of, exit, exit_of, labels, form_labels, form_lines}
+use Rattle.flow_lower.specs.Lower.{exit, exit_of, labels, form_labels, form_lines}
 use Rattle.flow_lower.proofs.Points.{Lay, lay, code_of, Point, none, read_points, yield_points, if_yes, if_no, loop_body, catch_body, first_lay, form_points, points, top, Owns, OwnsForm, owns_first, owns_rest, if_then, if_end, owns_no, owns_yes, loop_head, loop_end, owns_body, catch_head, catch_end, owns_guarded, owns_handler}
 use Rattle.flow_lower.proofs.Ran.{NodeState, Machine, Stack, flat_frame, waiting, Code, mm, lang, row_of, fw, mstep, C, Reaches, reaches_step, one, go_at, fail_at, resume_at, EndedAt, Ran, Runs}
 use Rattle.flow_lower.proofs.Mute.{Mute, act_mute, sub_mute, then_mute, next_mute, raised_mute, stored_mute}
-use Rattle.flow_lower.proofs.Parts.{mute_ran, mute_runs, followed_runs, held_same, reading_begins, reading_back, mark_comes, goto_goes, tail_runs, if_runs, loop_runs, catch_runs}
+use Rattle.flow_lower.proofs.Parts.{mute_ran, mute_runs, followed_runs, reading_begins, reading_back, mark_comes, goto_goes, tail_runs, if_runs, loop_runs, catch_runs}
 use Rattle.flow_lower.proofs.Bodies.{Stands, raised_fails, body_of_ran, BodyRuns, BodiesRun, operates_ran}
-
--- what both sides read in arguments is the same
-argument_same : (kc : ℕ) (stack : Stack) (q : Code) (f : node.Frame) (x : Argument) → machine.argument_value (flat_frame f) (argument_of x) ≡ node.argument_value f x
-argument_same kc stack q f (argument.Value a) = held_same q kc stack a f
-argument_same kc stack q f (argument.Name name) = refl
-
-both_same : (x : Option Value) (xs : Option (List Value)) → machine.both x xs ≡ node.both x xs
-both_same None xs = refl
-both_same (Some v) None = refl
-both_same (Some v) (Some vs) = refl
-
-values_same : (kc : ℕ) (stack : Stack) (q : Code) (f : node.Frame) (xs : List Argument) → machine.values (flat_frame f) (map argument_of xs) ≡ node.values f xs
-values_same kc stack q f [] = refl
-values_same kc stack q f (x ∷ xs) =
-    ap (λ v. machine.both v (machine.values (flat_frame f) (map argument_of xs))) (argument_same kc stack q f x)
-    ∙ ap (λ vs. machine.both (node.argument_value f x) vs) (values_same kc stack q f xs)
-    ∙ both_same (node.argument_value f x) (node.values f xs)
 
 module _ (q : Code) (stands : Stands q) (kc : ℕ) (stack : Stack) where
   -- one act, one statement
@@ -61,7 +44,7 @@ module _ (q : Code) (stands : Stands q) (kc : ℕ) (stack : Stack) where
   copied_ran to mid a t base s None e = tt
   copied_ran to mid a t base s (Some v) e = subst (λ u. C q s (go_at q kc stack mid (node.writes t to v) u)) (sym (append-nil base)) (one q _ _ e)
 
-  copy_runs : (n to from : ℕ) (mid : List Line) (a : Lay) → Runs q kc stack n (node.copy_row to from) (Do (flat.Store to (operand_of (operand.Temp from))) ∷ mid) (lay a.fail a.exits mid) none
+  copy_runs : (n to from : ℕ) (mid : List Line) (a : Lay) → Runs q kc stack n (node.copy_row to from) (Do (flat.Store to (operand.Temp from)) ∷ mid) (lay a.fail a.exits mid) none
   copy_runs n to from mid a = act_runs n _ _ mid a (λ t base. copied_ran to mid a t base _ (t.frame.temps from) refl)
 
   -- an operation
@@ -69,11 +52,11 @@ module _ (q : Code) (stands : Stands q) (kc : ℕ) (stack : Stack) where
   do_mute to line o args =
       then_mute (row_of q) _ _ (then_mute (row_of q) _ _ (sub_mute (row_of q) _) refl (raised_mute (row_of q) _ (λ x. act_mute (row_of q) _))) refl (stored_mute (row_of q) to)
 
-  do_runs : (n to line : ℕ) (o : Op) (args : List Argument) (mid : List Line) (a : Lay) → BodiesRun q stands n → Runs q kc stack n (node.do_row (lang q) to line o args) (Do (flat.Do to line o (map argument_of args) a.fail) ∷ mid) (lay a.fail a.exits mid) none
+  do_runs : (n to line : ℕ) (o : Op) (args : List Argument) (mid : List Line) (a : Lay) → BodiesRun q stands n → Runs q kc stack n (node.do_row (lang q) to line o args) (Do (flat.Do to line o args a.fail) ∷ mid) (lay a.fail a.exits mid) none
   do_runs n to line o args mid a bodies =
       mute_runs q kc stack n _ _ (lay a.fail a.exits mid) (do_mute to line o args)
       (λ t base. operates_ran q stands kc stack to line a mid t.frame n bodies base _ t.around o (node.values t.frame args)
-      (reaches_step q _ _ (ap (λ vs. machine.having vs (machine.undefined base) (λ vs. machine.operates (mm q) (waiting kc t.frame (record { to = to; line = line; fail = a.fail; next = mid })) stack (fw q t.around) base o vs)) (values_same kc stack q t.frame args))))
+      (reaches_step q _ _ refl))
 
   -- a pause
   module _ (n to line : ℕ) (x : Operand) (mid : List Line) (a : Lay) where
@@ -104,19 +87,19 @@ module _ (q : Code) (stands : Stands q) (kc : ℕ) (stack : Stack) where
     yield_back v (Second (Stopped u) ∷ p) how t base = tt
     yield_back v (Second Undefined ∷ p) how t base = tt
 
-    yield_runs : Runs q kc stack n (node.reading x pausing) (Do (flat.Yield to line (operand_of x) a.fail) ∷ mid) (lay a.fail a.exits mid) (read_points (λ v. yield_points point))
+    yield_runs : Runs q kc stack n (node.reading x pausing) (Do (flat.Yield to line x a.fail) ∷ mid) (lay a.fail a.exits mid) (read_points (λ v. yield_points point))
     yield_runs = record {
       begins = λ t base. reading_begins q kc stack n x (lay a.fail a.exits mid) (λ v. yield_points point) pausing base _ t
-          (λ v u. subst (λ z. Reaches q (go_at q kc stack (Do (flat.Yield to line (operand_of x) a.fail) ∷ mid) t base) (machine.paused (mm q) (waiting kc t.frame point) v stack (fw q t.around) z)) (sym (append-nil base)) (reaches_step q _ _ (u _ _)));
+          (λ v u. subst (λ z. Reaches q (go_at q kc stack (Do (flat.Yield to line x a.fail) ∷ mid) t base) (machine.paused (mm q) (waiting kc t.frame point) v stack (fw q t.around) z)) (sym (append-nil base)) (reaches_step q _ _ (u _ _)));
       goes_on = reading_back q kc stack n x pausing (lay a.fail a.exits mid) (λ v. yield_points point) yield_back;
     }
 
   -- an operand is read, and an act follows
   reading_mute : (x : Operand) (f : Value → NodeState → Effect NodeState) → Mute (row_of q) (node.reading x (λ v. Act (f v)))
   reading_mute x f =
-      then_mute (row_of q) _ _ (act_mute (row_of q) (λ s. record { out = []; state = s; end = node.used (node.held s.frame x) })) refl (next_mute (row_of q) _ (λ v. act_mute (row_of q) (f v)))
+      then_mute (row_of q) _ _ (act_mute (row_of q) (λ s. record { out = []; state = s; end = node.used (node.operand_value s.frame x) })) refl (next_mute (row_of q) _ (λ v. act_mute (row_of q) (f v)))
 
-  reading_runs : (n : ℕ) (x : Operand) (f : Value → NodeState → Effect NodeState) (entry : List Line) (a : Lay) → ((t : NodeState) (base : List ℕ) (v : Value) → ((other : Stepped Machine) (go : Value → Stepped Machine) → machine.using (machine.held (flat_frame t.frame) (operand_of x)) other go ≡ go v) → EndedAt q kc stack a (go_at q kc stack entry t base) (f v t).state (f v t).end (base ++ (f v t).out)) → Runs q kc stack n (node.reading x (λ v. Act (f v))) entry a (read_points (λ v. none))
+  reading_runs : (n : ℕ) (x : Operand) (f : Value → NodeState → Effect NodeState) (entry : List Line) (a : Lay) → ((t : NodeState) (base : List ℕ) (v : Value) → ((other : Stepped Machine) (go : Value → Stepped Machine) → machine.using (machine.operand_value (flat_frame t.frame) x) other go ≡ go v) → EndedAt q kc stack a (go_at q kc stack entry t base) (f v t).state (f v t).end (base ++ (f v t).out)) → Runs q kc stack n (node.reading x (λ v. Act (f v))) entry a (read_points (λ v. none))
   reading_runs n x f entry a h = record {
     begins = λ t base. reading_begins q kc stack n x a (λ v. none) (λ v. Act (f v)) base _ t (λ v u. h t base v u);
     goes_on = λ p how t base. mute_ran q kc stack n a (read_points (λ v. none)) base _ _ (reading_mute x f) p how t;
@@ -136,9 +119,9 @@ module _ (q : Code) (stands : Stands q) (kc : ℕ) (stack : Stack) where
   given_ran mid a t base s (Some v) e =
       λ d. subst (λ z. Reaches q s (machine.body_ended (mm q) t.frame.code stack (fw q t.around) z (Return v))) (sym (append-nil base)) (reaches_step q s _ (e ∙ uses v _ _ d))
 
-  return_runs : (n : ℕ) (x : Operand) (mid : List Line) (a : Lay) → Runs q kc stack n (Act (λ s. record { out = []; state = s; end = node.given (node.held s.frame x) })) (Do (flat.Give (operand_of x)) ∷ mid) (lay a.fail a.exits mid) none
+  return_runs : (n : ℕ) (x : Operand) (mid : List Line) (a : Lay) → Runs q kc stack n (Act (λ s. record { out = []; state = s; end = node.given (node.operand_value s.frame x) })) (Do (flat.Give x) ∷ mid) (lay a.fail a.exits mid) none
   return_runs n x mid a =
-      act_runs n _ _ mid a (λ t base. given_ran mid a t base _ (node.held t.frame x) (ap (λ y. machine.using y (machine.undefined base) (λ v. machine.body_ended (mm q) t.frame.code stack (fw q t.around) base (Return v))) (held_same q kc stack x t.frame)))
+      act_runs n _ _ mid a (λ t base. given_ran mid a t base _ (node.operand_value t.frame x) refl)
 
   -- an exception is raised as it stands
   pending_ran : (a : Lay) (ls mid : List Line) (t : NodeState) (base : List ℕ) (s : Machine) (e : ℕ) (x : Option Object) → mstep q s ≡ machine.pending_exception (mm q) (go_at q kc stack ls t base) a.fail e x → EndedAt q kc stack (lay a.fail a.exits mid) s t (node.exception_end e x) (base ++ [])
@@ -155,10 +138,10 @@ module _ (q : Code) (stands : Stands q) (kc : ℕ) (stack : Stack) where
   raise_ran a ls mid t base s (value.Str text) st = tt
   raise_ran a ls mid t base s (value.Obj e) st = pending_ran a ls mid t base s e (slice_get t.around.world.heap e) st
 
-  raise_runs : (n : ℕ) (x : Operand) (mid : List Line) (a : Lay) → Runs q kc stack n (node.reading x node.raise_row) (Do (flat.Again (operand_of x) a.fail) ∷ mid) (lay a.fail a.exits mid) (read_points (λ v. none))
+  raise_runs : (n : ℕ) (x : Operand) (mid : List Line) (a : Lay) → Runs q kc stack n (node.reading x node.raise_row) (Do (flat.Again x a.fail) ∷ mid) (lay a.fail a.exits mid) (read_points (λ v. none))
   raise_runs n x mid a =
-      reading_runs n x (λ v s. record { out = []; state = s; end = node.raise_end s.around.world.heap v }) (Do (flat.Again (operand_of x) a.fail) ∷ mid) (lay a.fail a.exits mid)
-      (λ t base v u. raise_ran a (Do (flat.Again (operand_of x) a.fail) ∷ mid) mid t base _ v (u _ _))
+      reading_runs n x (λ v s. record { out = []; state = s; end = node.raise_end s.around.world.heap v }) (Do (flat.Again x a.fail) ∷ mid) (lay a.fail a.exits mid)
+      (λ t base v u. raise_ran a (Do (flat.Again x a.fail) ∷ mid) mid t base _ v (u _ _))
 
   -- so many loops are left
   leave_runs : (n levels : ℕ) (mid : List Line) (a : Lay) → Runs q kc stack n (ends_with (node.leave_end levels)) (Do (flat.Goto (exit_of a.exits levels)) ∷ mid) (lay a.fail a.exits mid) none

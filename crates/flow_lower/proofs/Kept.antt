@@ -3,23 +3,21 @@ use Rattle.std.proofs.Common.{◌≡◌, ℕ, zero, suc, ◌+◌, List, [], ◌�
 use Rattle.op_forms.specs.declared.constant.Const.{Const}
 use Rattle.op_forms.specs.declared.op.Op.{Op}
 use Rattle.op_forms.specs.declared.op.Op.TheVariants as op
-use Rattle.node_tree.specs.declared.node.Argument as node_argument
-use Rattle.node_tree.specs.declared.node.Argument.TheVariants as argument
-use Rattle.node_tree.specs.declared.node.Operand.{Operand}
-use Rattle.node_tree.specs.declared.node.Operand.TheVariants as operand
+use Rattle.code_forms.specs.declared.operand.Argument.TheVariants as argument
+use Rattle.code_forms.specs.declared.operand.Operand.{Operand}
+use Rattle.code_forms.specs.declared.operand.Operand.TheVariants as operand
 use Rattle.node_tree.specs.declared.script.NodeCode.{NodeCode}
 use Rattle.node_tree.specs.Blocks as tree
 use Rattle.node_tree.specs.Tree.{block}
 use Rattle.node_tree.specs.Contents as node
 use Rattle.flow_code.specs.declared.function.FlatFunction.{FlatFunction}
-use Rattle.flow_code.specs.declared.statement.Argument.{Argument}
-use Rattle.flow_code.specs.declared.statement.Operand.TheVariants as to_operand
+use Rattle.code_forms.specs.declared.operand.Argument.{Argument}
 use Rattle.flow_code.specs.declared.statement.Line.{Line}
 use Rattle.flow_code.specs.declared.statement.Line.TheVariants.{Label, Do}
 use Rattle.flow_code.specs.declared.statement.Statement.{Statement}
 use Rattle.flow_code.specs.declared.statement.Statement.TheVariants as flat
 use Rattle.flow_code.specs.Contents as code
-use Rattle.flow_lower.specs.Lower.{operand_of, argument_of, exit_of, form_labels, labels, form_lines, block_lines, copies, code_lines, last_lines}
+use Rattle.flow_lower.specs.Lower.{exit_of, form_labels, labels, form_lines, block_lines, copies, code_lines, last_lines}
 use Rattle.flow_lower.specs.Correct.{LowersCode, LowersEach}
 use Rattle.flow_lower.specs.Kept.{Keeps, KeepsEach}
 
@@ -28,17 +26,17 @@ none_more n = omega arith
 
 -- a statement of flat code counts as much as the one that it is lowered from; what lowering adds counts nothing
 record Agrees (w : Statement → ℕ) (v : tree.Form → ℕ) : Type 0 where
-  constant : (to : ℕ) (c : Const) → w (flat.Store to (to_operand.Const c)) ≡ v (tree.Constant to c)
-  copy : (to from : ℕ) → w (flat.Store to (to_operand.Register from)) ≡ v (tree.Copy to from)
-  operation : (to line : ℕ) (o : Op) (args : List node_argument.Argument) (fail : ℕ) → w (flat.Do to line o (map argument_of args) fail) ≡ v (tree.Do to line o args)
-  call : (to line : ℕ) (f : Operand) (args : List Operand) (fail : ℕ) → w (flat.Do to line op.Call (map argument_of (argument.Value f ∷ map argument.Value args)) fail) ≡ v (tree.Call to line f args)
-  yield : (to line : ℕ) (a : Operand) (fail : ℕ) → w (flat.Yield to line (operand_of a) fail) ≡ v (tree.Yield to line a)
-  branch : (a : Operand) (l : ℕ) (y n : tree.Block) → w (flat.Branch (operand_of a) l) ≡ v (tree.If a y n)
+  constant : (to : ℕ) (c : Const) → w (flat.Store to (operand.Const c)) ≡ v (tree.Constant to c)
+  copy : (to from : ℕ) → w (flat.Store to (operand.Temp from)) ≡ v (tree.Copy to from)
+  operation : (to line : ℕ) (o : Op) (args : List Argument) (fail : ℕ) → w (flat.Do to line o args fail) ≡ v (tree.Do to line o args)
+  call : (to line : ℕ) (f : Operand) (args : List Operand) (fail : ℕ) → w (flat.Do to line op.Call (argument.Value f ∷ map argument.Value args) fail) ≡ v (tree.Call to line f args)
+  yield : (to line : ℕ) (a : Operand) (fail : ℕ) → w (flat.Yield to line a fail) ≡ v (tree.Yield to line a)
+  branch : (a : Operand) (l : ℕ) (y n : tree.Block) → w (flat.Branch a l) ≡ v (tree.If a y n)
   loop : (b : tree.Block) → 0 ≡ v (tree.Loop b)
   leave : (n : ℕ) → 0 ≡ v (tree.Leave n)
   guard : (to : ℕ) (b h : tree.Block) → 0 ≡ v (tree.Catch to b h)
-  give : (a : Operand) → w (flat.Give (operand_of a)) ≡ v (tree.Return a)
-  again : (a : Operand) (l : ℕ) → w (flat.Again (operand_of a) l) ≡ v (tree.Raise a)
+  give : (a : Operand) → w (flat.Give a) ≡ v (tree.Return a)
+  again : (a : Operand) (l : ℕ) → w (flat.Again a l) ≡ v (tree.Raise a)
   unset : (to : ℕ) → w (flat.Unset to) ≡ v (tree.Unset to)
   goto : (l : ℕ) → w (flat.Goto l) ≡ 0
   caught : (to : ℕ) → w (flat.Caught to) ≡ 0
@@ -61,7 +59,7 @@ module _ (w : Statement → ℕ) (v : tree.Form → ℕ) (same : Agrees w v) whe
     total_form (tree.If a y n) k fail out mid =
         let rest = block_lines y (k + 2 + labels n) fail out (Label (k + 1) ∷ mid) in
         let jump = Do (flat.Goto (k + 1)) ∷ Label k ∷ rest in
-        let e1 : code.total w (form_lines (tree.If a y n) k fail out mid) ≡ w (flat.Branch (operand_of a) k) + code.total w (block_lines n (k + 2) fail out jump) = refl in
+        let e1 : code.total w (form_lines (tree.If a y n) k fail out mid) ≡ w (flat.Branch a k) + code.total w (block_lines n (k + 2) fail out jump) = refl in
         let e2 = total_block n (k + 2) fail out jump in
         let e3 : code.total w jump ≡ w (flat.Goto (k + 1)) + code.total w rest = refl in
         let e4 : code.total w rest ≡ node.total v y + code.total w mid = total_block y (k + 2 + labels n) fail out (Label (k + 1) ∷ mid) in
@@ -101,10 +99,10 @@ module _ (w : Statement → ℕ) (v : tree.Form → ℕ) (same : Agrees w v) whe
 
   total_code : (c : NodeCode) → code.total w (code_lines c) ≡ node.total v (block c.body)
   total_code c =
-      total_copies flat.Parameter same.parameter (length c.params) 0 0 _ ∙ total_copies flat.Free same.free c.free (length c.params) 0 _
+      total_copies flat.Parameter same.parameter (length c.header.params) 0 0 _ ∙ total_copies flat.Free same.free c.free (length c.header.params) 0 _
       ∙ omega (arith, total_block (block c.body) 1 0 [] (last_lines (block c.body)), total_last (block c.body))
 
-same_operations : (test : Op → List Argument → Bool) → Agrees (code.statement_operations test) (node.form_operations (λ o args. test o (map argument_of args)))
+same_operations : (test : Op → List Argument → Bool) → Agrees (code.statement_operations test) (node.form_operations test)
 same_operations test = record {
   constant = λ to c. refl;
   copy = λ to from. refl;
@@ -149,31 +147,19 @@ same_yields = record {
 }
 
 module _ (test : Const → Bool) where
-  operand_constants : (a : Operand) → code.operand_constants test (operand_of a) ≡ node.operand_constants test a
-  operand_constants (operand.Temp t) = refl
-  operand_constants (operand.Const c) = refl
-
-  argument_constants : (a : node_argument.Argument) → code.argument_constants test (argument_of a) ≡ node.argument_constants test a
-  argument_constants (argument.Value a) = operand_constants a
-  argument_constants (argument.Name name) = refl
-
-  arguments_constants : (args : List node_argument.Argument) → code.arguments_constants test (map argument_of args) ≡ node.arguments_constants test args
-  arguments_constants [] = refl
-  arguments_constants (a ∷ args) = omega (arith, argument_constants a, arguments_constants args)
-
   same_constants : Agrees (code.statement_constants test) (node.form_constants test)
   same_constants = record {
     constant = λ to c. refl;
     copy = λ to from. refl;
-    operation = λ to line o args fail. arguments_constants args;
-    call = λ to line f args fail. arguments_constants (argument.Value f ∷ map argument.Value args);
-    yield = λ to line a fail. operand_constants a;
-    branch = λ a l y n. operand_constants a;
+    operation = λ to line o args fail. refl;
+    call = λ to line f args fail. refl;
+    yield = λ to line a fail. refl;
+    branch = λ a l y n. refl;
     loop = λ b. refl;
     leave = λ n. refl;
     guard = λ to b h. refl;
-    give = λ a. operand_constants a;
-    again = λ a l. operand_constants a;
+    give = λ a. refl;
+    again = λ a l. refl;
     unset = λ to. refl;
     goto = λ l. refl;
     caught = λ to. refl;

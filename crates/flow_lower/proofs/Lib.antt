@@ -9,7 +9,6 @@ mod Program
 mod Opening
 mod Scripts
 mod Emitted
-mod Takes
 mod Counted
 mod Kept
 mod Greatest

@@ -7,8 +7,7 @@ use Rattle.nu_value.specs.declared.value.Value.TheVariants as value
 use Rattle.nu_rows.specs.Rows.{End, Next, Leave, Raised, Return, Stopped, Undefined, Step, First, Second, How, Send, Throw, Start, Begin, Back, Res, Spent, Paused, Ended, Effect, Row, Act, Yld, Then, Loop, Sub, after, shift, before, turned, interp, does}
 use Rattle.nu_rows.specs.Rows as rows
 use Rattle.nu_rows.specs.Words.{on_next, on_raised, choose}
-use Rattle.node_tree.specs.declared.node.Operand.{Operand}
-use Rattle.node_tree.specs.declared.node.Operand.TheVariants as operand
+use Rattle.code_forms.specs.declared.operand.Operand.{Operand}
 use Rattle.node_tree.specs.Blocks as tree
 use Rattle.node_tree.specs.Nodes as node
 use Rattle.flow_code.specs.declared.statement.Line.{Line}
@@ -16,7 +15,6 @@ use Rattle.flow_code.specs.declared.statement.Line.TheVariants.{Label, Do}
 use Rattle.flow_code.specs.declared.statement.Statement.TheVariants as flat
 use Rattle.flow_code.specs.Machine as machine
 use Rattle.flow_code.specs.Run.{find}
-use Rattle.flow_lower.specs.Lower.{operand_of}
 use Rattle.flow_lower.proofs.Points.{Lay, lay, Points, none, then_points, read_points, choose_points, catch_points}
 use Rattle.flow_lower.proofs.Ran.{NodeState, Machine, Stack, flat_frame, Code, mm, lang, row_of, fw, mstep, exec, C, G, one, SpentAt, go_at, resume_at, EndedAt, Ran, ran_from, ran_goes, ran_before, ran_step, ran_tail, ran_after, Runs}
 use Rattle.flow_lower.proofs.Mute.{Mute}
@@ -67,11 +65,6 @@ module _ (q : Code) (kc : ℕ) (stack : Stack) where
       back (Second (Stopped v) ∷ p) how t base = tt
       back (Second Undefined ∷ p) how t base = tt
 
-  -- what both sides read in an operand is the same
-  pub held_same : (a : Operand) (f : node.Frame) → machine.held (flat_frame f) (operand_of a) ≡ node.held f a
-  held_same (operand.Temp t) f = refl
-  held_same (operand.Const c) f = refl
-
   -- an operand is read
   abbrev Uses : Option Value → Value → Type 0
   Uses x v = (other : Stepped Machine) (go : Value → Stepped Machine) → machine.using x other go ≡ go v
@@ -85,9 +78,9 @@ module _ (q : Code) (kc : ℕ) (stack : Stack) where
   reading_ran n a pts k base s t (Some (value.Str text)) h = ran_step q kc stack n a (read_points pts) base _ s _ (h (value.Str text) (λ o go. refl))
   reading_ran n a pts k base s t (Some (value.Obj m)) h = ran_step q kc stack n a (read_points pts) base _ s _ (h (value.Obj m) (λ o go. refl))
 
-  pub reading_begins : (n : ℕ) (x : Operand) (a : Lay) (pts : Value → Points) (k : Value → node.R) (base : List ℕ) (s : Machine) (t : NodeState) → ((v : Value) → ((other : Stepped Machine) (go : Value → Stepped Machine) → machine.using (machine.held (flat_frame t.frame) (operand_of x)) other go ≡ go v) → Ran q kc stack n a (pts v) base s (does (row_of q) (k v) Begin t n)) → Ran q kc stack n a (read_points pts) base s (does (row_of q) (node.reading x k) Begin t n)
+  pub reading_begins : (n : ℕ) (x : Operand) (a : Lay) (pts : Value → Points) (k : Value → node.R) (base : List ℕ) (s : Machine) (t : NodeState) → ((v : Value) → ((other : Stepped Machine) (go : Value → Stepped Machine) → machine.using (machine.operand_value (flat_frame t.frame) x) other go ≡ go v) → Ran q kc stack n a (pts v) base s (does (row_of q) (k v) Begin t n)) → Ran q kc stack n a (read_points pts) base s (does (row_of q) (node.reading x k) Begin t n)
   reading_begins n x a pts k base s t h =
-      reading_ran n a pts k base s t (node.held t.frame x) (λ v u. h v (λ other go. ap (λ z. machine.using z other go) (held_same x t.frame) ∙ u other go))
+      reading_ran n a pts k base s t (node.operand_value t.frame x) h
 
   pub reading_back : (n : ℕ) (x : Operand) (k : Value → node.R) (a : Lay) (pts : Value → Points) → ((v : Value) (p : List Step) (how : How) (t : NodeState) (base : List ℕ) → Ran q kc stack n a (pts v) base (resume_at q kc stack (pts v p) how t base) (does (row_of q) (k v) (Back p how) t n)) → (p : List Step) (how : How) (t : NodeState) (base : List ℕ) → Ran q kc stack n a (read_points pts) base (resume_at q kc stack (read_points pts p) how t base) (does (row_of q) (node.reading x k) (Back p how) t n)
   reading_back n x k a pts hg [] how t base = tt
@@ -135,7 +128,7 @@ module _ (q : Code) (kc : ℕ) (stack : Stack) where
   choose_back n (value.Str text) y z ey ez a fy fz p how t base hy hz = tt
   choose_back n (value.Obj i) y z ey ez a fy fz p how t base hy hz = tt
 
-  pub if_runs : (n : ℕ) (x : Operand) (k : ℕ) (y z : node.R) (ey ez : List Line) (a : Lay) (fy fz : Points) → find k (q.lines kc) ≡ ey → Runs q kc stack n y ey a fy → Runs q kc stack n z ez a fz → Runs q kc stack n (node.reading x (λ v. choose v y z)) (Do (flat.Branch (operand_of x) k) ∷ ez) a (read_points (λ v. choose_points v fy fz))
+  pub if_runs : (n : ℕ) (x : Operand) (k : ℕ) (y z : node.R) (ey ez : List Line) (a : Lay) (fy fz : Points) → find k (q.lines kc) ≡ ey → Runs q kc stack n y ey a fy → Runs q kc stack n z ez a fz → Runs q kc stack n (node.reading x (λ v. choose v y z)) (Do (flat.Branch x k) ∷ ez) a (read_points (λ v. choose_points v fy fz))
   if_runs n x k y z ey ez a fy fz e hy hz = record {
     begins = λ t base. reading_begins n x a (λ v. choose_points v fy fz) (λ v. choose v y z) base _ t (λ v u. choose_begins n v y z ey ez a fy fz _ t base k hy hz e (u _ _));
     goes_on = reading_back n x (λ v. choose v y z) a (λ v. choose_points v fy fz) (λ v p how t base. choose_back n v y z ey ez a fy fz p how t base hy hz);

@@ -42,15 +42,12 @@ at_each (c ∷ cs) [] h n = absurd h
 at_each (c ∷ cs) (f ∷ fs) h zero = h.0
 at_each (c ∷ cs) (f ∷ fs) h (suc n) = at_each cs fs h.1 n
 
-header_same : (c : NodeCode) (f : FlatFunction) → LowersCode c f → flat_header f ≡ node_header c
-header_same c f h = cc (h.scope, h.params, h.generator, h.line)
-
 headers_same : (cs : List NodeCode) (fs : List FlatFunction) → LowersEach cs fs → map flat_header fs ≡ map node_header cs
 headers_same [] [] h = refl
 headers_same [] (f ∷ fs) h = absurd h
 headers_same (c ∷ cs) [] h = absurd h
 headers_same (c ∷ cs) (f ∷ fs) h =
-    ap (λ x. x ∷ map flat_header fs) (header_same c f h.0) ∙ ap (λ xs. node_header c ∷ xs) (headers_same cs fs h.1)
+    ap (λ x. x ∷ map flat_header fs) h.0.header ∙ ap (λ xs. node_header c ∷ xs) (headers_same cs fs h.1)
 
 both_true : (x y : Bool) → (x && y) ≡ true → (x ≡ true) × (y ≡ true)
 both_true true true e = (refl, refl)
@@ -95,7 +92,7 @@ module _ (rules : Rules) (script : NodeScript) (flat_script : FlatScript) (h : L
 
   -- the labels of a function stand behind what copies what it was handed
   behind : (x : NodeCode) (f : FlatFunction) → LowersCode x f → (l : ℕ) → find l f.body ≡ find l (body_lines (block x.body))
-  behind x f h l = ap (λ ls. find l ls) h.body ∙ skip_copies l flat.Parameter (length x.params) 0 0 _ ∙ skip_copies l flat.Free x.free (length x.params) 0 _
+  behind x f h l = ap (λ ls. find l ls) h.body ∙ skip_copies l flat.Parameter (length x.header.params) 0 0 _ ∙ skip_copies l flat.Free x.free (length x.header.params) 0 _
 
   fails_at : (x : Option NodeCode) (f : Option FlatFunction) → AtBoth x f → some_there f ≡ true → Fails (block_of x) (find 0 (lines_of f))
   fails_at None None b e = cc
@@ -119,27 +116,27 @@ module _ (rules : Rules) (script : NodeScript) (flat_script : FlatScript) (h : L
   there_at kind c given cells fr None None b e = cc
   there_at kind c given cells fr None (Some f) b e = absurd b
   there_at kind c given cells fr (Some x) None b e = absurd b
-  there_at kind c given cells fr (Some x) (Some f) b e = ap (of_kind kind) b.generator ∙ kind_first (of_kind kind x.generator) _ _ fr e
+  there_at kind c given cells fr (Some x) (Some f) b e = ap (λ d. of_kind kind d.generator) b.header ∙ kind_first (of_kind kind x.header.generator) _ _ fr e
 
   abbrev Opens : ℕ → List Value → List Value → node.Frame → tree.Block → List Line → Type 0
   Opens c given cells fr b ls = (stack : Stack) (a : Surroundings Waiting) (out : List ℕ) → C q (machine.at c ls (machine.fresh c given cells) None stack a out) (machine.at c (body_lines b) (flat_frame fr) None stack a out)
 
-  opens_code : (c : ℕ) (given cells : List Value) (fr : node.Frame) (x : NodeCode) (y : Bool) → (nat_le (length x.params) (length given) && nat_le x.free (length cells)) ≡ y → (if y then Some (record { code = c; given = given; cells = cells; temps = slice_get (take (length x.params) given ++ take x.free cells) }) else None) ≡ Some fr → Opens c given cells fr (block x.body) (code_lines x)
+  opens_code : (c : ℕ) (given cells : List Value) (fr : node.Frame) (x : NodeCode) (y : Bool) → (nat_le (length x.header.params) (length given) && nat_le x.free (length cells)) ≡ y → (if y then Some (record { code = c; given = given; cells = cells; temps = slice_get (take (length x.header.params) given ++ take x.free cells) }) else None) ≡ Some fr → Opens c given cells fr (block x.body) (code_lines x)
   opens_code c given cells fr x false ey e stack a out = cc
   opens_code c given cells fr x true ey e stack a out =
-      let t = both_true (nat_le (length x.params) (length given)) (nat_le x.free (length cells)) ey in
-      let start : node.Frame = record { code = c; given = given; cells = cells; temps = slice_get (take (length x.params) given ++ take x.free cells) } in
+      let t = both_true (nat_le (length x.header.params) (length given)) (nat_le x.free (length cells)) ey in
+      let start : node.Frame = record { code = c; given = given; cells = cells; temps = slice_get (take (length x.header.params) given ++ take x.free cells) } in
       let e2 : Some start ≡ Some fr = e in
       let ef : start ≡ fr = cc in
       subst (λ z. C q (machine.at c (code_lines x) (machine.fresh c given cells) None stack a out) (machine.at c (body_lines (block x.body)) (flat_frame z) None stack a out)) ef
-      (opening q c stack a out given cells (length x.params) x.free (body_lines (block x.body)) (leb-true _ _ t.0) (leb-true _ _ t.1))
+      (opening q c stack a out given cells (length x.header.params) x.free (body_lines (block x.body)) (leb-true _ _ t.0) (leb-true _ _ t.1))
 
   opens_at : (kind : Bool) (c : ℕ) (given cells : List Value) (fr : node.Frame) (x : Option NodeCode) (f : Option FlatFunction) → AtBoth x f → begun_frame kind c given cells x ≡ Some fr → Opens c given cells fr (block_of x) (lines_of f)
   opens_at kind c given cells fr None None b e = λ stack a out. cc
   opens_at kind c given cells fr None (Some f) b e = absurd b
   opens_at kind c given cells fr (Some x) None b e = absurd b
   opens_at kind c given cells fr (Some x) (Some f) b e =
-      subst (λ ls. Opens c given cells fr (block x.body) ls) (sym b.body) (opens_code c given cells fr x _ refl (kind_rest (of_kind kind x.generator) _ _ fr e))
+      subst (λ ls. Opens c given cells fr (block x.body) ls) (sym b.body) (opens_code c given cells fr x _ refl (kind_rest (of_kind kind x.header.generator) _ _ fr e))
 
   stands : Stands q
   stands = record {

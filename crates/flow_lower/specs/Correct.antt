@@ -12,13 +12,9 @@ use Rattle.flow_code.specs.Registers.{registers, above}
 use Rattle.flow_code.specs.Run.{flat_run}
 use Rattle.flow_lower.specs.Lower.{labels, code_lines}
 
--- a function is that of a code: the same name, parameters, kind and first line, and the code's lines, with as many
--- registers as stand in them
+-- a function is that of a code: the same header, and the code's lines, with as many registers as stand in them
 pub record LowersCode (code : NodeCode) (f : FlatFunction) : Type 0 where
-  pub scope : f.scope ≡ code.scope
-  pub params : f.params ≡ code.params
-  pub generator : f.generator ≡ code.generator
-  pub line : f.line ≡ code.line
+  pub header : f.header ≡ code.header
   pub labels : f.labels ≡ 1 + labels (block code.body)
   pub registers : f.registers ≡ above (registers f.body)
   pub body : f.body ≡ code_lines code

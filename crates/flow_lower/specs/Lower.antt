@@ -1,30 +1,15 @@
 -- The flat code of node trees.
 use Rattle.std.specs.Prelude.{ℕ, zero, suc, ◌+◌, List, [], ◌∷◌, map, length}
 use Rattle.op_forms.specs.declared.op.Op.TheVariants as op
-use Rattle.node_tree.specs.declared.node.Argument.{Argument}
-use Rattle.node_tree.specs.declared.node.Argument.TheVariants as argument
-use Rattle.node_tree.specs.declared.node.Operand.{Operand}
-use Rattle.node_tree.specs.declared.node.Operand.TheVariants as operand
+use Rattle.code_forms.specs.declared.operand.Argument.TheVariants as argument
+use Rattle.code_forms.specs.declared.operand.Operand.TheVariants as operand
 use Rattle.node_tree.specs.declared.script.NodeCode.{NodeCode}
 use Rattle.node_tree.specs.Blocks as tree
 use Rattle.node_tree.specs.Tree.{block}
-use Rattle.flow_code.specs.declared.statement.Argument as flat_argument
-use Rattle.flow_code.specs.declared.statement.Argument.TheVariants as to_argument
-use Rattle.flow_code.specs.declared.statement.Operand as flat_operand
-use Rattle.flow_code.specs.declared.statement.Operand.TheVariants as to_operand
 use Rattle.flow_code.specs.declared.statement.Line.{Line}
 use Rattle.flow_code.specs.declared.statement.Line.TheVariants.{Label, Do}
 use Rattle.flow_code.specs.declared.statement.Statement.{Statement}
 use Rattle.flow_code.specs.declared.statement.Statement.TheVariants as flat
-
--- a temporary is the register of its number
-abbrev pub operand_of : Operand → flat_operand.Operand
-operand_of (operand.Temp t) = to_operand.Register t
-operand_of (operand.Const c) = to_operand.Const c
-
-abbrev pub argument_of : Argument → flat_argument.Argument
-argument_of (argument.Value a) = to_argument.Value (operand_of a)
-argument_of (argument.Name name) = to_argument.Name name
 
 -- how many labels a statement, and a block, has
 abbrev mutual
@@ -57,24 +42,24 @@ exit_of ls zero = 0
 exit_of ls (suc n) = exit ls n
 
 -- the lines of a statement, and of a block, whose labels are numbered from k on, within loops with these exits; an
--- exception leads to the label `fail`. The lines that follow come last
+-- exception leads to the label `fail`. A temporary is the register of its number. The lines that follow come last
 abbrev mutual
   pub form_lines : tree.Form → ℕ → ℕ → List ℕ → List Line → List Line
-  form_lines (tree.Constant to c) k fail exits mid = Do (flat.Store to (to_operand.Const c)) ∷ mid
-  form_lines (tree.Copy to from) k fail exits mid = Do (flat.Store to (to_operand.Register from)) ∷ mid
-  form_lines (tree.Do to line o args) k fail exits mid = Do (flat.Do to line o (map argument_of args) fail) ∷ mid
+  form_lines (tree.Constant to c) k fail exits mid = Do (flat.Store to (operand.Const c)) ∷ mid
+  form_lines (tree.Copy to from) k fail exits mid = Do (flat.Store to (operand.Temp from)) ∷ mid
+  form_lines (tree.Do to line o args) k fail exits mid = Do (flat.Do to line o args fail) ∷ mid
   form_lines (tree.Call to line function args) k fail exits mid =
-      Do (flat.Do to line op.Call (map argument_of (argument.Value function ∷ map argument.Value args)) fail) ∷ mid
-  form_lines (tree.Yield to line a) k fail exits mid = Do (flat.Yield to line (operand_of a) fail) ∷ mid
+      Do (flat.Do to line op.Call (argument.Value function ∷ map argument.Value args) fail) ∷ mid
+  form_lines (tree.Yield to line a) k fail exits mid = Do (flat.Yield to line a fail) ∷ mid
   form_lines (tree.If test y n) k fail exits mid =
-      Do (flat.Branch (operand_of test) k) ∷ block_lines n (k + 2) fail exits (Do (flat.Goto (k + 1)) ∷ Label k ∷ block_lines y (k + 2 + labels n) fail exits (Label (k + 1) ∷ mid))
+      Do (flat.Branch test k) ∷ block_lines n (k + 2) fail exits (Do (flat.Goto (k + 1)) ∷ Label k ∷ block_lines y (k + 2 + labels n) fail exits (Label (k + 1) ∷ mid))
   form_lines (tree.Loop body) k fail exits mid =
       Label k ∷ block_lines body (k + 2) fail ((k + 1) ∷ exits) (Do (flat.Goto k) ∷ Label (k + 1) ∷ mid)
   form_lines (tree.Leave levels) k fail exits mid = Do (flat.Goto (exit_of exits levels)) ∷ mid
   form_lines (tree.Catch to body handler) k fail exits mid =
       block_lines body (k + 2) k exits (Do (flat.Goto (k + 1)) ∷ Label k ∷ Do (flat.Caught to) ∷ block_lines handler (k + 2 + labels body) fail exits (Label (k + 1) ∷ mid))
-  form_lines (tree.Return a) k fail exits mid = Do (flat.Give (operand_of a)) ∷ mid
-  form_lines (tree.Raise a) k fail exits mid = Do (flat.Again (operand_of a) fail) ∷ mid
+  form_lines (tree.Return a) k fail exits mid = Do (flat.Give a) ∷ mid
+  form_lines (tree.Raise a) k fail exits mid = Do (flat.Again a fail) ∷ mid
   form_lines (tree.Unset to) k fail exits mid = Do (flat.Unset to) ∷ mid
 
   pub block_lines : tree.Block → ℕ → ℕ → List ℕ → List Line → List Line
@@ -104,4 +89,4 @@ abbrev pub function_lines : ℕ → ℕ → tree.Block → List Line
 function_lines params free b = copies flat.Parameter params 0 0 (copies flat.Free free params 0 (body_lines b))
 
 abbrev pub code_lines : NodeCode → List Line
-code_lines code = function_lines (length code.params) code.free (block code.body)
+code_lines code = function_lines (length code.header.params) code.free (block code.body)

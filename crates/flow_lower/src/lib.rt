@@ -1,7 +1,7 @@
 //! Flat code of node trees.
 #![tactic(auto)]
 
-mod copies;
+mod calls;
 mod lowering;
 mod registers;
 mod script;

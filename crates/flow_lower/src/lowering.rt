@@ -6,9 +6,10 @@ ghost use Rattle.flow_code.specs.declared.statement.Line.{Line as Flat};
 ghost use Rattle.flow_code.specs.declared.statement.Line.TheVariants as flat_line;
 ghost use Rattle.flow_lower.specs.Lower.{form_labels, labels as label_count, exit_of, form_lines, block_lines};
 
-use crate::copies::{call_arguments, lower_arguments, lower_operand};
-use flow_code::{Line, Operand, Statement};
-use node_tree::{Node, share_constant};
+use crate::calls::call_arguments;
+use code_forms::{Operand, share_arguments, share_constant};
+use flow_code::{Line, Statement};
+use node_tree::Node;
 use op_forms::Op;
 use std::alloc::{AllocError, Global};
 
@@ -61,11 +62,11 @@ fn lower_node(
             out,
             Statement::Store {
                 to: *to,
-                value: Operand::Register(*from),
+                value: Operand::Temp(*from),
             },
         ),
         Node::Do { to, line, op, args } => {
-            let args = lower_arguments(alloc, args.as_slice())?;
+            let args = share_arguments(alloc, args.as_slice())?;
             put(
                 out,
                 Statement::Do {
@@ -96,7 +97,7 @@ fn lower_node(
             )
         }
         Node::Yield { to, line, value } => {
-            let value = lower_operand(value)?;
+            let value = value.share()?;
             put(
                 out,
                 Statement::Yield {
@@ -110,7 +111,7 @@ fn lower_node(
         Node::If { test, yes, no } => {
             let first = fresh(labels)?;
             let end = fresh(labels)?;
-            let test = lower_operand(test)?;
+            let test = test.share()?;
             put(out, Statement::Branch { test, label: first })?;
             lower_nodes(alloc, out, labels, no.as_slice(), fail, exits)?;
             put(out, Statement::Goto { label: end })?;
@@ -148,11 +149,11 @@ fn lower_node(
             Ok(())
         }
         Node::Return { value } => {
-            let value = lower_operand(value)?;
+            let value = value.share()?;
             put(out, Statement::Give { value })
         }
         Node::Raise { value } => {
-            let value = lower_operand(value)?;
+            let value = value.share()?;
             put(out, Statement::Again { value, label: fail })
         }
         Node::Unset { to } => put(out, Statement::Unset { to: *to }),

@@ -83,7 +83,7 @@ fn operand_count(operand: &Operand) -> Result<u64, AllocError>
     ensures { IfOk result (λ count. count ≡ above (operand_reads operand.now)) }
 {
     match operand {
-        Operand::Register(number) => register_count(*number),
+        Operand::Temp(number) => register_count(*number),
         Operand::Const(_) => Ok(0),
     }
 }

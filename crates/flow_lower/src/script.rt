@@ -11,9 +11,9 @@ ghost use Rattle.flow_lower.specs.Correct.{Lowers, LowersCode, DoesTheSame};
 ghost use Rattle.flow_lower.specs.Kept.{KeepsEach};
 ghost use Rattle.flow_lower.specs.Lower.{copies, fail_lines};
 
-use crate::copies::share_shape;
 use crate::lowering::{fresh, lower_nodes, mark, put};
 use crate::registers::count_registers;
+use code_forms::share_header;
 use flow_code::{FlatFunction, FlatScript, Line, Statement};
 use node_tree::{Node, NodeCode, NodeScript};
 use sqlite_items::Items;
@@ -48,7 +48,7 @@ fn lower_code(alloc: Global, code: &NodeCode) -> Result<FlatFunction, AllocError
     ensures room { IfOk result (λ f. HasRoom f) }
 {
     let mut out = Vec::new(alloc);
-    put_parameters(&mut out, code.params.len() as u64)?;
+    put_parameters(&mut out, code.header.params.len() as u64)?;
     put_free(&mut out, code.free)?;
     let mut labels = Vec::new(alloc);
     let mut exits = Vec::new(alloc);
@@ -59,10 +59,7 @@ fn lower_code(alloc: Global, code: &NodeCode) -> Result<FlatFunction, AllocError
     put_fail(&mut out, fail, nodes)?;
     let registers = count_registers(&out)?;
     Ok(FlatFunction {
-        scope: code.scope.share()?,
-        params: share_shape(alloc, &code.params)?,
-        generator: code.generator,
-        line: code.line,
+        header: share_header(alloc, &code.header)?,
         labels: labels.len() as u64,
         registers,
         body: Items::from_vec(out),

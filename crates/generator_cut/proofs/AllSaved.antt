@@ -20,7 +20,7 @@ abbrev Live : FlatFunction → List Line → ℕ → Type 0
 Live f left r = r < f.registers
 
 abbrev Held : FlatFunction → List Line → ℕ → Type 0
-Held f left r = (f.generator ≡ true) × (r < f.registers)
+Held f left r = (f.header.generator ≡ true) × (r < f.registers)
 
 counted_has : (k n r : ℕ) → n ≤ r → r < n + k → Has r (counted k n)
 counted_has zero n r le lt = absurd (omega (arith, le, lt))
@@ -49,13 +49,13 @@ all_works f formed = record {
   declared = formed.declared;
   numbered = formed.numbered;
   live = record { next = λ left x more p e on r free q. q; jump = λ left x more p e r free. all_same (r < f.registers) _ };
-  held = record { next = λ left x more p e on r free q. q; jump = λ left x more p e r free. all_same ((f.generator ≡ true) × (r < f.registers)) _ };
+  held = record { next = λ left x more p e on r free q. q; jump = λ left x more p e r free. all_same ((f.header.generator ≡ true) × (r < f.registers)) _ };
   reads = λ left x more p e. read_at f.registers f.body left x more e p formed.declared;
   begins = λ r q. (q.0, counted_has f.registers 0 r (omega arith) (is_below f.registers r q.1));
   cleared = counted_all (λ r. r < f.registers) f.registers 0 (λ r lt. below_is f.registers r lt);
   next = λ g left to at a fail more p e r ne q. counted_has f.registers 0 r (omega arith) (is_below f.registers r (⊎_elim (λ l. l) (λ h. h.1) q));
   thrown = λ g left to at a fail more p e r ne q. counted_has f.registers 0 r (omega arith) (is_below f.registers r (⊎_elim (λ l. l) (λ h. h.1) q));
-  saved = λ g left x more p e. counted_all (λ r. (r < f.registers) × ((f.generator ≡ true) × (r < f.registers))) f.registers 0 (λ r lt. (below_is f.registers r lt, (g, below_is f.registers r lt)));
+  saved = λ g left x more p e. counted_all (λ r. (r < f.registers) × ((f.header.generator ≡ true) × (r < f.registers))) f.registers 0 (λ r lt. (below_is f.registers r lt, (g, below_is f.registers r lt)));
   room = λ x more. omega (arith, counted_length f.registers 0);
 }
 

@@ -17,10 +17,10 @@ use Rattle.op_forms.specs.Answers.{Answer}
 use Rattle.op_forms.specs.Rules.{Rules}
 use Rattle.flow_code.specs.declared.function.FlatFunction.{FlatFunction}
 use Rattle.flow_code.specs.declared.function.FlatScript.{FlatScript}
-use Rattle.flow_code.specs.declared.statement.Argument.TheVariants as argument
+use Rattle.code_forms.specs.declared.operand.Argument.TheVariants as argument
 use Rattle.flow_code.specs.declared.statement.Line.{Line}
 use Rattle.flow_code.specs.declared.statement.Line.TheVariants as line
-use Rattle.flow_code.specs.declared.statement.Operand.TheVariants as operand
+use Rattle.code_forms.specs.declared.operand.Operand.TheVariants as operand
 use Rattle.flow_code.specs.declared.statement.Statement.TheVariants as flat
 use Rattle.flow_code.specs.Run.{flat_run}
 use Rattle.c_meaning.specs.Run.{c_run}
@@ -44,10 +44,10 @@ rules = record {
 }
 
 abbrev calls : ℕ → Op → ℕ → Line
-calls to o from = line.Do (flat.Do to 1 o (argument.Value (operand.Register from) ∷ []) 0)
+calls to o from = line.Do (flat.Do to 1 o (argument.Value (operand.Temp from) ∷ []) 0)
 
 abbrev function_of : Bool → List Line → FlatFunction
-function_of generator body = record { scope = codes "f"; params = []; generator = generator; line = 1; labels = 2; registers = 2; body = body }
+function_of generator body = record { header = record { scope = codes "f"; params = []; generator = generator; line = 1 }; labels = 2; registers = 2; body = body }
 
 abbrev main : List Line
 main =
@@ -56,8 +56,8 @@ main =
 
 abbrev generator : List Line
 generator =
-    line.Do (flat.Store 0 (operand.Const (const.Str (codes "a")))) ∷ line.Do (flat.Yield 1 3 (operand.Register 0) 0) ∷ line.Do (flat.Yield 1 4 (operand.Register 0) 1) ∷ line.Label 0 ∷ line.Do flat.Fail
-    ∷ line.Label 1 ∷ line.Do (flat.Caught 1) ∷ line.Do (flat.Store 0 (operand.Const (const.Str (codes "c")))) ∷ line.Do (flat.Yield 1 5 (operand.Register 0) 0) ∷ line.Do flat.End ∷ []
+    line.Do (flat.Store 0 (operand.Const (const.Str (codes "a")))) ∷ line.Do (flat.Yield 1 3 (operand.Temp 0) 0) ∷ line.Do (flat.Yield 1 4 (operand.Temp 0) 1) ∷ line.Label 0 ∷ line.Do flat.Fail
+    ∷ line.Label 1 ∷ line.Do (flat.Caught 1) ∷ line.Do (flat.Store 0 (operand.Const (const.Str (codes "c")))) ∷ line.Do (flat.Yield 1 5 (operand.Temp 0) 0) ∷ line.Do flat.End ∷ []
 
 abbrev script : FlatScript
 script = record { name = codes "t.py"; scripts = 2; functions = function_of false main ∷ function_of true generator ∷ [] }

@@ -1,50 +1,45 @@
 -- What a program keeps of flat code: headers, operations, constants and pauses.
 use Rattle.std.proofs.Common.{◌≡◌, ℕ, ◌+◌, ◌-◌, ◌≤◌, List, [], ◌∷◌, Bool, true, false, map, length, refl, ap, ◌∙◌, arith}
-use Rattle.op_forms.specs.declared.constant.Const.TheVariants as const
+use Rattle.op_forms.specs.declared.constant.Const.{Const}
 use Rattle.op_forms.specs.declared.op.Op.{Op}
 use Rattle.flow_code.specs.declared.function.FlatFunction.{FlatFunction}
 use Rattle.flow_code.specs.declared.function.FlatScript.{FlatScript}
-use Rattle.flow_code.specs.declared.statement.Argument as flat_argument
-use Rattle.flow_code.specs.declared.statement.Argument.TheVariants as argument
 use Rattle.flow_code.specs.declared.statement.Line as flat_line
 use Rattle.flow_code.specs.declared.statement.Line.TheVariants.{Label, Do}
-use Rattle.flow_code.specs.declared.statement.Operand as flat_operand
-use Rattle.flow_code.specs.declared.statement.Operand.TheVariants as operand
 use Rattle.flow_code.specs.declared.statement.Statement as flat_statement
 use Rattle.flow_code.specs.declared.statement.Statement.TheVariants as flat
 use Rattle.flow_code.specs.Contents as cut
 use Rattle.flow_code.specs.Run.{header}
-use Rattle.c_meaning.specs.declared.program.Argument.{Argument}
+use Rattle.code_forms.specs.declared.operand.Argument.{Argument}
 use Rattle.c_meaning.specs.declared.program.Line.{Line}
-use Rattle.c_meaning.specs.declared.program.Operand.{Operand}
-use Rattle.c_meaning.specs.declared.program.Operand.TheVariants as read
+use Rattle.code_forms.specs.declared.operand.Operand.TheVariants as read
 use Rattle.c_meaning.specs.declared.program.Statement.{Statement}
 use Rattle.c_meaning.specs.declared.program.Statement.TheVariants as statement
 use Rattle.c_meaning.specs.declared.program.Stored.TheVariants as stored
 use Rattle.c_meaning.specs.Run.{header_of}
 use Rattle.generator_cut.specs.Contents as c
 use Rattle.generator_cut.specs.Correct.{HasHeads, KeepsEach}
-use Rattle.generator_cut.specs.Cut.{Plan, constant_of, operand_of, argument_of, saves, loads, clears, becomes, behind, lines, base_of, body_lines, body_of_kind, function_of, program_of, all_saved}
+use Rattle.generator_cut.specs.Cut.{Plan, saves, loads, clears, becomes, behind, lines, base_of, body_lines, body_of_kind, function_of, program_of, all_saved}
 
 -- the statement that stands for one of flat code; a pause, with its number, stands for a yield statement
 abbrev one : ℕ → flat_statement.Statement → Statement
-one n (flat.Store to a) = statement.Store to (stored.Value (operand_of a))
+one n (flat.Store to a) = statement.Store to (stored.Value a)
 one n (flat.Unset to) = statement.Store to stored.Unset
 one n (flat.Parameter to i) = statement.Store to (stored.Parameter i)
 one n (flat.Free to i) = statement.Store to (stored.Free i)
-one n (flat.Do to at o args fail) = statement.Store to (stored.Operation o at (map argument_of args) fail)
+one n (flat.Do to at o args fail) = statement.Store to (stored.Operation o at args fail)
 one n (flat.Goto l) = statement.Goto l
-one n (flat.Branch a l) = statement.Branch (operand_of a) l
+one n (flat.Branch a l) = statement.Branch a l
 one n (flat.Caught to) = statement.Store to stored.Caught
-one n (flat.Again a l) = statement.Again (operand_of a) l
-one n (flat.Give a) = statement.Give (operand_of a)
+one n (flat.Again a l) = statement.Again a l
+one n (flat.Give a) = statement.Give a
 one n flat.End = statement.End
 one n flat.Fail = statement.Fail
-one n (flat.Yield to at a fail) = statement.Pause n (operand_of a)
+one n (flat.Yield to at a fail) = statement.Pause n a
 
 -- counts that find nothing in what a pause adds
 record Counts (count : Statement → ℕ) (counted : flat_statement.Statement → ℕ) : Type 0 where
-  save : (slot r : ℕ) → count (statement.Save slot (read.Register r)) ≡ 0
+  save : (slot r : ℕ) → count (statement.Save slot (read.Temp r)) ≡ 0
   load : (to slot : ℕ) → count (statement.Store to (stored.Load slot)) ≡ 0
   unset : (to : ℕ) → count (statement.Store to stored.Unset) ≡ 0
   sent : (to at fail : ℕ) → count (statement.Store to (stored.Sent at fail)) ≡ 0
@@ -95,7 +90,7 @@ module _ (count : Statement → ℕ) (counted : flat_statement.Statement → ℕ
   total_body true p f = nothing_more (known.switch _) (total_clears p.cleared (body_lines p f) ∙ total_lines (base_of f) p.saved 0 f.body)
   total_body false p f = total_lines (base_of f) p.saved 0 f.body
 
-operations_in : (test : Op → List Argument → Bool) (n : ℕ) (x : flat_statement.Statement) → c.statement_operations test (one n x) ≡ cut.statement_operations (λ o args. test o (map argument_of args)) x
+operations_in : (test : Op → List Argument → Bool) (n : ℕ) (x : flat_statement.Statement) → c.statement_operations test (one n x) ≡ cut.statement_operations test x
 operations_in test n (flat.Store to a) = refl
 operations_in test n (flat.Unset to) = refl
 operations_in test n (flat.Parameter to i) = refl
@@ -110,37 +105,20 @@ operations_in test n flat.End = refl
 operations_in test n flat.Fail = refl
 operations_in test n (flat.Yield to at a fail) = refl
 
-module _ (test : Operand → Bool) where
-  operand_in : (a : flat_operand.Operand) → c.operand_constants test (operand_of a) ≡ cut.operand_constants (λ x. test (constant_of x)) a
-  operand_in (operand.Register r) = refl
-  operand_in (operand.Const const.None) = refl
-  operand_in (operand.Const (const.Bool true)) = refl
-  operand_in (operand.Const (const.Bool false)) = refl
-  operand_in (operand.Const (const.Int z)) = refl
-  operand_in (operand.Const (const.Str text)) = refl
-
-  argument_in : (a : flat_argument.Argument) → c.argument_constants test (argument_of a) ≡ cut.argument_constants (λ x. test (constant_of x)) a
-  argument_in (argument.Value a) = operand_in a
-  argument_in (argument.Name name) = refl
-
-  arguments_in : (args : List flat_argument.Argument) → c.arguments_constants test (map argument_of args) ≡ cut.arguments_constants (λ x. test (constant_of x)) args
-  arguments_in [] = refl
-  arguments_in (a ∷ args) = sum_is (argument_in a) (arguments_in args)
-
-  constants_in : (n : ℕ) (x : flat_statement.Statement) → c.statement_constants test (one n x) ≡ cut.statement_constants (λ x. test (constant_of x)) x
-  constants_in n (flat.Store to a) = operand_in a
-  constants_in n (flat.Unset to) = refl
-  constants_in n (flat.Parameter to i) = refl
-  constants_in n (flat.Free to i) = refl
-  constants_in n (flat.Do to at o args fail) = arguments_in args
-  constants_in n (flat.Goto l) = refl
-  constants_in n (flat.Branch a l) = operand_in a
-  constants_in n (flat.Caught to) = refl
-  constants_in n (flat.Again a l) = operand_in a
-  constants_in n (flat.Give a) = operand_in a
-  constants_in n flat.End = refl
-  constants_in n flat.Fail = refl
-  constants_in n (flat.Yield to at a fail) = operand_in a
+constants_in : (test : Const → Bool) (n : ℕ) (x : flat_statement.Statement) → c.statement_constants test (one n x) ≡ cut.statement_constants test x
+constants_in test n (flat.Store to a) = refl
+constants_in test n (flat.Unset to) = refl
+constants_in test n (flat.Parameter to i) = refl
+constants_in test n (flat.Free to i) = refl
+constants_in test n (flat.Do to at o args fail) = refl
+constants_in test n (flat.Goto l) = refl
+constants_in test n (flat.Branch a l) = refl
+constants_in test n (flat.Caught to) = refl
+constants_in test n (flat.Again a l) = refl
+constants_in test n (flat.Give a) = refl
+constants_in test n flat.End = refl
+constants_in test n flat.Fail = refl
+constants_in test n (flat.Yield to at a fail) = refl
 
 pauses_in : (n : ℕ) (x : flat_statement.Statement) → c.statement_pauses (one n x) ≡ cut.statement_yields x
 pauses_in n (flat.Store to a) = refl
@@ -157,10 +135,10 @@ pauses_in n flat.End = refl
 pauses_in n flat.Fail = refl
 pauses_in n (flat.Yield to at a fail) = refl
 
-operations_counted : (test : Op → List Argument → Bool) → Counts (c.statement_operations test) (cut.statement_operations (λ o args. test o (map argument_of args)))
+operations_counted : (test : Op → List Argument → Bool) → Counts (c.statement_operations test) (cut.statement_operations test)
 operations_counted test = record { save = λ slot r. refl; load = λ to slot. refl; unset = λ to. refl; sent = λ to at fail. refl; switch = λ labels. refl; each = operations_in test }
 
-constants_counted : (test : Operand → Bool) → Counts (c.statement_constants test) (cut.statement_constants (λ x. test (constant_of x)))
+constants_counted : (test : Const → Bool) → Counts (c.statement_constants test) (cut.statement_constants test)
 constants_counted test = record { save = λ slot r. refl; load = λ to slot. refl; unset = λ to. refl; sent = λ to at fail. refl; switch = λ labels. refl; each = constants_in test }
 
 pauses_counted : Counts c.statement_pauses cut.statement_yields
@@ -171,9 +149,9 @@ keeps_each [] = tt
 keeps_each (f ∷ fs) = (
   record {
     registers = refl;
-    operations = λ test. total_body _ _ (operations_counted test) f.generator (all_saved f) f;
-    constants = λ test. total_body _ _ (constants_counted test) f.generator (all_saved f) f;
-    pauses = total_body _ _ pauses_counted f.generator (all_saved f) f;
+    operations = λ test. total_body _ _ (operations_counted test) f.header.generator (all_saved f) f;
+    constants = λ test. total_body _ _ (constants_counted test) f.header.generator (all_saved f) f;
+    pauses = total_body _ _ pauses_counted f.header.generator (all_saved f) f;
   },
   keeps_each fs,
 )

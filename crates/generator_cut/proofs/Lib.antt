@@ -4,7 +4,6 @@ pub mod Machines
 mod AllSaved
 pub mod Paths
 mod Example
-mod Copied
 pub mod Emitted
 mod Kept
 mod Texts

@@ -15,7 +15,6 @@ use Rattle.nu_value.specs.declared.object.Object.{Object}
 use Rattle.nu_value.specs.declared.object.Object.TheVariants as object
 use Rattle.nu_value.specs.declared.value.Value.{Value}
 use Rattle.nu_value.specs.declared.value.Value.TheVariants as value
-use Rattle.op_forms.specs.declared.constant.Const.TheVariants as const
 use Rattle.op_forms.specs.declared.end.After.{After}
 use Rattle.op_forms.specs.declared.end.After.TheVariants as after
 use Rattle.op_forms.specs.declared.op.Op.{Op}
@@ -28,11 +27,12 @@ use Rattle.nu_calls.specs.Surroundings.{Surroundings, Scene, scene, with_scene, 
 use Rattle.nu_calls.specs.Traceback.{head_text}
 use Rattle.flow_code.specs.declared.function.FlatFunction.{FlatFunction}
 use Rattle.flow_code.specs.declared.function.FlatScript.{FlatScript}
-use Rattle.flow_code.specs.declared.statement.Argument.{Argument}
-use Rattle.flow_code.specs.declared.statement.Argument.TheVariants as argument
+use Rattle.code_forms.specs.declared.operand.Argument.{Argument}
+use Rattle.code_forms.specs.declared.operand.Argument.TheVariants as argument
+use Rattle.code_forms.specs.Reading as reading
 use Rattle.flow_code.specs.declared.statement.Line.{Line}
-use Rattle.flow_code.specs.declared.statement.Operand.{Operand}
-use Rattle.flow_code.specs.declared.statement.Operand.TheVariants as operand
+use Rattle.code_forms.specs.declared.operand.Operand.{Operand}
+use Rattle.code_forms.specs.declared.operand.Operand.TheVariants as operand
 use Rattle.flow_code.specs.declared.statement.Statement.{Statement}
 use Rattle.flow_code.specs.declared.statement.Statement.TheVariants as flat
 use Rattle.flow_code.specs.Contents.{yields}
@@ -43,8 +43,6 @@ use Rattle.flow_code.specs.Registers.{reads, writes, operand_reads, argument_rea
 use Rattle.flow_code.specs.Run.{find, first, header, lines_of, is_there, functions, begun, flat_run}
 use Rattle.c_meaning.specs.declared.program.Line.{Line as CLine}
 use Rattle.c_meaning.specs.declared.program.Line.TheVariants as c_line
-use Rattle.c_meaning.specs.declared.program.Operand as c_operand
-use Rattle.c_meaning.specs.declared.program.Operand.TheVariants as c_read
 use Rattle.c_meaning.specs.declared.program.Statement.{Statement as CStatement}
 use Rattle.c_meaning.specs.declared.program.Statement.TheVariants as statement
 use Rattle.c_meaning.specs.declared.program.Stored.TheVariants as stored
@@ -62,7 +60,7 @@ use Rattle.c_meaning.specs.State.{State, printed_in}
 use Rattle.c_meaning.specs.State as here
 use Rattle.c_meaning.specs.Step as c
 use Rattle.c_meaning.proofs.Grows.{step_grows, c_monotone}
-use Rattle.generator_cut.specs.Cut.{Plan, operand_of, argument_of, saves, loads, clears, resumption, becomes, behind, lines, counted, base_of, body_lines, body_of_kind, cut_body, slots_of_kind, function_of, program_of}
+use Rattle.generator_cut.specs.Cut.{Plan, saves, loads, clears, resumption, becomes, behind, lines, counted, base_of, body_lines, body_of_kind, cut_body, slots_of_kind, function_of, program_of}
 use Rattle.generator_cut.specs.Plan.{Has, Unwritten, GoesOn, IsPart, Closed, Works}
 use Rattle.generator_cut.proofs.Places.{some_is, c_first, c_find, from, Stands, first_at, next_at, goal_at, no_goal, placed_is, loads_some, part_next, part_find, part_whole, written_at, low, unfound, all_front, all_back, Placed, Paused, placed_first, front, first_none, Jumped, jumped, body_find, body_placed, counted_at, not_equal, equal_self, find_clears}
 use Rattle.generator_cut.proofs.Slots.{item, Fine, HasValue, item_blank, fine_written, value_written, cleared, Holds, stored_length, loaded_length, cleared_length, stored_holds, loaded_right, cleared_has}
@@ -124,7 +122,7 @@ module _ (rules : Rules) (script : FlatScript) (plan : FlatFunction → Plan) (L
     part : IsPart function.body left
     agrees : Agrees function left registers frame
     placed : PlacedIn function pause left
-    room : function.generator ≡ true → length slots ≡ (plan function).slots
+    room : function.header.generator ≡ true → length slots ≡ (plan function).slots
 
   abbrev frame_of : Spot → Frame
   frame_of a = record { code = a.number; given = a.given; cells = a.cells; registers = a.frame }
@@ -145,7 +143,7 @@ module _ (rules : Rules) (script : FlatScript) (plan : FlatFunction → Plan) (L
     next : List Line
     first : first spot.left ≡ Some (flat.Yield to line value fail, next)
     saved : Holds 0 ((plan spot.function).saved (flat.Yield to line value fail) next) spot.registers spot.slots
-    generator : spot.function.generator ≡ true
+    generator : spot.function.header.generator ≡ true
 
   abbrev waiting_at : Spot → ℕ → ℕ → ℕ → List Line → Waiting (List Line)
   waiting_at a to line fail next = record { code = a.number; frame = frame_of a; pending = a.pending; to = to; line = line; fail = fail; next = next }
@@ -234,12 +232,12 @@ module _ (rules : Rules) (script : FlatScript) (plan : FlatFunction → Plan) (L
   SitsOn (Bottommost Builtins) number u = (k : ℕ) × (number ≡ suc k)
   SitsOn (Bottommost Script) number u = number ≡ 0
   SitsOn (Bottommost (Report head caller after)) number u = (e : ℕ) × (u ≡ Some (record { exception = e; function = caller; head = head }))
-  SitsOn (Calling w after below) number u = (w.spot.function.generator ≡ resumes below) × SitsOn below w.spot.number u
-  SitsOn (Resuming w g called closing what resumed below) number u = (w.spot.function.generator ≡ resumes below) × SitsOn below w.spot.number u
+  SitsOn (Calling w after below) number u = (w.spot.function.header.generator ≡ resumes below) × SitsOn below w.spot.number u
+  SitsOn (Resuming w g called closing what resumed below) number u = (w.spot.function.header.generator ≡ resumes below) × SitsOn below w.spot.number u
 
   -- and generators are resumed, other functions are not
   abbrev Sits : Chain → Spot → Option Uncaught → Type 0
-  Sits chain a u = (a.function.generator ≡ resumes chain) × SitsOn chain a.number u
+  Sits chain a u = (a.function.header.generator ≡ resumes chain) × SitsOn chain a.number u
 
   abbrev flat_state : Spot → Chain → Scene → List (Option Dozing) → List ℕ → machine.State (List Line)
   flat_state a chain world ks out = machine.at a.number a.left (frame_of a) a.pending (stack_of chain) (flat_around ks world) out
@@ -351,7 +349,7 @@ module _ (rules : Rules) (script : FlatScript) (plan : FlatFunction → Plan) (L
       inside goal e lt =
           let b = body_placed (plan a.function) a.function (works_at a).numbered in
           let j = jumped (body a.function) (base_of a.function) (yields a.function.body) (plan a.function).saved 0 a.function.body l (omega (arith, lt)) b in
-          let is : c_find l (body a.function) ≡ lines_at a.function j.pause (find l a.function.body) = body_find a.function.generator (plan a.function) a.function l (λ s. omega (arith, s, lt)) ∙ j.is in
+          let is : c_find l (body a.function) ≡ lines_at a.function j.pause (find l a.function.body) = body_find a.function.header.generator (plan a.function) a.function l (λ s. omega (arith, s, lt)) ∙ j.is in
           go goal e j is
         where
           go : (goal : Option ℕ) → goal_in 0 (body a.function) l ≡ goal → (j : Jumped (body a.function) (base_of a.function) (yields a.function.body) (plan a.function).saved 0 a.function.body l) → c_find l (body a.function) ≡ lines_at a.function j.pause (find l a.function.body) → Match (More (machine.at a.number (find l a.function.body) (record { code = a.number; given = a.given; cells = a.cells; registers = frame }) pending (stack_of chain) (flat_around ks world) out)) (here.jumps (around_state (record { function = a.number; place = n; registers = registers; slots = a.slots; arguments = a.given; cells = a.cells; pending = pending; purpose = purpose_of chain }) (below_of chain) world ks u out) goal)
@@ -463,9 +461,9 @@ module _ (rules : Rules) (script : FlatScript) (plan : FlatFunction → Plan) (L
     lt_true : (a b : ℕ) → a < b → nat_lt a b ≡ true
     lt_true a b h = grind (arith, nat_tests, h)
 
-    save_step : (n k r : ℕ) (registers slots : List (Option Value)) (rest : List CLine) → Stands (body f) (c_line.Do (statement.Save k (c_read.Register r)) ∷ rest) n → HasValue (item registers r) → k < length slots → c.step rules code (with_values n registers slots) ≡ More (with_values (n + 1) registers (slice_set slots k (item registers r)))
+    save_step : (n k r : ℕ) (registers slots : List (Option Value)) (rest : List CLine) → Stands (body f) (c_line.Do (statement.Save k (operand.Temp r)) ∷ rest) n → HasValue (item registers r) → k < length slots → c.step rules code (with_values n registers slots) ≡ More (with_values (n + 1) registers (slice_set slots k (item registers r)))
     save_step n k r registers slots rest stands h lt =
-        step_is (with_values n registers slots) f is (statement.Save k (c_read.Register r)) rest stands
+        step_is (with_values n registers slots) f is (statement.Save k (operand.Temp r)) rest stands
         ∙ ap (c.saves (with_values n registers slots) k) h.is
         ∙ ap (λ b. if b then More (with_values (n + 1) registers (slice_set slots k (Some h.value))) else here.undefined (with_values n registers slots)) (lt_true k (length slots) lt)
         ∙ ap (λ o. More (with_values (n + 1) registers (slice_set slots k o))) (sym h.is)
@@ -513,7 +511,7 @@ module _ (rules : Rules) (script : FlatScript) (plan : FlatFunction → Plan) (L
         (clears_run rs (n + 1) (slice_set registers r (Some value.Unset)) slots rest (next_at (body f) n _ (clears rs rest) stands))
 
     -- the switch of a generator, where it goes to such a label
-    switch_step : (registers slots : List (Option Value)) → f.generator ≡ true → (k : ℕ) → c.number_of why ≡ Some k → (goal : Option ℕ) → option_flatten (slice_get (map (goal_in 0 (body f)) (f.labels ∷ counted (yields f.body) (base_of f))) k) ≡ goal → (n : ℕ) → goal ≡ Some n → c.step rules code (with_values 0 registers slots) ≡ More (with_values n registers slots)
+    switch_step : (registers slots : List (Option Value)) → f.header.generator ≡ true → (k : ℕ) → c.number_of why ≡ Some k → (goal : Option ℕ) → option_flatten (slice_get (map (goal_in 0 (body f)) (f.labels ∷ counted (yields f.body) (base_of f))) k) ≡ goal → (n : ℕ) → goal ≡ Some n → c.step rules code (with_values 0 registers slots) ≡ More (with_values n registers slots)
     switch_step registers slots generator k number goal at n e =
         step_is (with_values 0 registers slots) f is (statement.Switch (f.labels ∷ counted (yields f.body) (base_of f))) (c_line.Label f.labels ∷ clears (plan f).cleared (body_lines (plan f) f)) (ap (λ b. from (body_of_kind b (plan f) f) 0) (sym generator))
         ∙ ap (c.switches (with_values 0 registers slots) (map (goal_in 0 (body f)) (f.labels ∷ counted (yields f.body) (base_of f)))) number
@@ -529,7 +527,7 @@ module _ (rules : Rules) (script : FlatScript) (plan : FlatFunction → Plan) (L
   not_both e f = let c : true ≡ false = sym e ∙ f in cc
 
   -- an activation that begins, with these registers and slots
-  abbrev beginning : (number : ℕ) (f : FlatFunction) → slice_get script.functions number ≡ Some f → List Value → List Value → (registers slots : List (Option Value)) → Agrees f f.body registers (λ r. None) → (f.generator ≡ true → length slots ≡ (plan f).slots) → Spot
+  abbrev beginning : (number : ℕ) (f : FlatFunction) → slice_get script.functions number ≡ Some f → List Value → List Value → (registers slots : List (Option Value)) → Agrees f f.body registers (λ r. None) → (f.header.generator ≡ true → length slots ≡ (plan f).slots) → Spot
   beginning number f is given cells registers slots agrees room = record {
     number = number;
     function = f;
@@ -548,7 +546,7 @@ module _ (rules : Rules) (script : FlatScript) (plan : FlatFunction → Plan) (L
     room = room;
   }
 
-  blank_agrees : (number : ℕ) (f : FlatFunction) → slice_get script.functions number ≡ Some f → f.generator ≡ false → Agrees f f.body (replicate f.registers None) (λ r. None)
+  blank_agrees : (number : ℕ) (f : FlatFunction) → slice_get script.functions number ≡ Some f → f.header.generator ≡ false → Agrees f f.body (replicate f.registers None) (λ r. None)
   blank_agrees number f is e = record { many = length-replicate f.registers None; live = λ r q. tt; held = λ r q. absurd (not_both ((works number f is).begins r q).0 e) }
 
   cleared_agrees : (number : ℕ) (f : FlatFunction) → slice_get script.functions number ≡ Some f → Agrees f f.body (cleared (plan f).cleared (replicate f.registers None)) (λ r. None)
@@ -565,7 +563,7 @@ module _ (rules : Rules) (script : FlatScript) (plan : FlatFunction → Plan) (L
     abbrev inside_of : ℕ → Scene
     inside_of number = inside rules script.scripts (scene (flat_around ks world)) number
 
-    entered_kind : (chain : Chain) (number : ℕ) (f : FlatFunction) → slice_get script.functions number ≡ Some f → resumes chain ≡ false → SitsOn chain number u → (b : Bool) → f.generator ≡ b → Match (if of_kind false b then More (machine.at number f.body (machine.fresh number given cells) None (stack_of chain) (flat_around ks (inside_of number)) out) else machine.undefined out) (c.begins_body rules code (around_state running others world ks u out) number given cells [] (purpose_of chain) (below_of chain) (Some (body_of (function_of (plan f) f))))
+    entered_kind : (chain : Chain) (number : ℕ) (f : FlatFunction) → slice_get script.functions number ≡ Some f → resumes chain ≡ false → SitsOn chain number u → (b : Bool) → f.header.generator ≡ b → Match (if of_kind false b then More (machine.at number f.body (machine.fresh number given cells) None (stack_of chain) (flat_around ks (inside_of number)) out) else machine.undefined out) (c.begins_body rules code (around_state running others world ks u out) number given cells [] (purpose_of chain) (below_of chain) (Some (body_of (function_of (plan f) f))))
     entered_kind chain number f is called sits true e = λ d. absurd d
     entered_kind chain number f is called sits false e =
         go_match (beginning number f is given cells (replicate f.registers None) [] (blank_agrees number f is e) (λ t. absurd (not_both t e))) 0 chain (inside_of number) ks u out
@@ -573,7 +571,7 @@ module _ (rules : Rules) (script : FlatScript) (plan : FlatFunction → Plan) (L
 
     entered : (chain : Chain) (number : ℕ) (o : Option FlatFunction) → slice_get script.functions number ≡ o → resumes chain ≡ false → SitsOn chain number u → Match (if is_there false o then More (machine.at number (lines_of o) (machine.fresh number given cells) None (stack_of chain) (flat_around ks (inside_of number)) out) else machine.undefined out) (c.begins_body rules code (around_state running others world ks u out) number given cells [] (purpose_of chain) (below_of chain) (option_map body_of (option_map (λ f. function_of (plan f) f) o)))
     entered chain number None is called sits = λ d. absurd d
-    entered chain number (Some f) is called sits = entered_kind chain number f is called sits f.generator refl
+    entered chain number (Some f) is called sits = entered_kind chain number f is called sits f.header.generator refl
 
     enters_match : (chain : Chain) (number : ℕ) → resumes chain ≡ false → SitsOn chain number u → Match (machine.enters m false number given cells (stack_of chain) (flat_around ks world) out) (c.enters rules code (around_state running others world ks u out) number given cells (purpose_of chain) (below_of chain))
     enters_match chain number called sits =
@@ -581,17 +579,17 @@ module _ (rules : Rules) (script : FlatScript) (plan : FlatFunction → Plan) (L
         (entered chain number (slice_get script.functions number) refl called sits)
 
   -- a generator begins: the switch goes to the label of its beginning, and registers are cleared
-  start_goal : (f : FlatFunction) → f.generator ≡ true → goal_in 0 (body f) f.labels ≡ Some 1
+  start_goal : (f : FlatFunction) → f.header.generator ≡ true → goal_in 0 (body f) f.labels ≡ Some 1
   start_goal f e =
       ap (λ b. goal_in 0 (body_of_kind b (plan f) f) f.labels) e ∙ ap (λ b. if b then Some 1 else goal_in 1 (clears (plan f).cleared (body_lines (plan f) f)) f.labels) (equal_self f.labels)
 
-  begun_kind : (w : Asleep) (below : Chain) (g number : ℕ) (f : FlatFunction) → slice_get script.functions number ≡ Some f → (given cells : List Value) (world : Scene) (ks : List (Option Dozing)) (u : Option Uncaught) (out : List ℕ) → Sits below w.spot u → (b : Bool) → f.generator ≡ b → Match (if of_kind true b then More (machine.at number f.body (machine.fresh number given cells) None (stack_of (Resuming w g number false (told.Sent value.None) 0 below)) (flat_around ks (inside rules script.scripts (scene (flat_around ks world)) number)) out) else machine.undefined out) (c.begins_generator rules code (c_state w.spot w.place below world ks u out) g number given cells (Some (body_of (function_of (plan f) f))))
+  begun_kind : (w : Asleep) (below : Chain) (g number : ℕ) (f : FlatFunction) → slice_get script.functions number ≡ Some f → (given cells : List Value) (world : Scene) (ks : List (Option Dozing)) (u : Option Uncaught) (out : List ℕ) → Sits below w.spot u → (b : Bool) → f.header.generator ≡ b → Match (if of_kind true b then More (machine.at number f.body (machine.fresh number given cells) None (stack_of (Resuming w g number false (told.Sent value.None) 0 below)) (flat_around ks (inside rules script.scripts (scene (flat_around ks world)) number)) out) else machine.undefined out) (c.begins_generator rules code (c_state w.spot w.place below world ks u out) g number given cells (Some (body_of (function_of (plan f) f))))
   begun_kind w below g number f is given cells world ks u out sits false e = λ d. absurd d
   begun_kind w below g number f is given cells world ks u out sits true e =
       let chain = Resuming w g number false (told.Sent value.None) 0 below in
       let inner = inside rules script.scripts (scene (flat_around ks world)) number in
       let blank = replicate f.registers None in
-      let many = slots_of_kind f.generator (plan f) in
+      let many = slots_of_kind f.header.generator (plan f) in
       let slots = replicate many None in
       let clear = clears_run number f is given cells None (purpose_of chain) (below_of chain) inner ks u out (plan f).cleared 1 blank slots (body_lines (plan f) f) (ap (λ b. from (body_of_kind b (plan f) f) 1) (sym e)) in
       let switch = switch_step number f is given cells None (purpose_of chain) (below_of chain) inner ks u out blank slots e 0 refl (goal_in 0 (body f) f.labels) refl 1 (start_goal f e) in
@@ -600,7 +598,7 @@ module _ (rules : Rules) (script : FlatScript) (plan : FlatFunction → Plan) (L
 
   begun_match : (o : Option FlatFunction) (w : Asleep) (below : Chain) (g number : ℕ) → slice_get script.functions number ≡ o → (given cells : List Value) (world : Scene) (ks : List (Option Dozing)) (u : Option Uncaught) (out : List ℕ) → Sits below w.spot u → Match (if is_there true o then More (machine.at number (lines_of o) (machine.fresh number given cells) None (stack_of (Resuming w g number false (told.Sent value.None) 0 below)) (flat_around ks (inside rules script.scripts (scene (flat_around ks world)) number)) out) else machine.undefined out) (c.begins_generator rules code (c_state w.spot w.place below world ks u out) g number given cells (option_map body_of (option_map (λ f. function_of (plan f) f) o)))
   begun_match None w below g number is given cells world ks u out sits = λ d. absurd d
-  begun_match (Some f) w below g number is given cells world ks u out sits = begun_kind w below g number f is given cells world ks u out sits f.generator refl
+  begun_match (Some f) w below g number is given cells world ks u out sits = begun_kind w below g number f is given cells world ks u out sits f.header.generator refl
 
   -- A PAUSED GENERATOR GOES ON
 
@@ -680,7 +678,7 @@ module _ (rules : Rules) (script : FlatScript) (plan : FlatFunction → Plan) (L
       }
 
   -- what was sent comes
-  sent_match : (l : Landing) (w : Asleep) (g number : ℕ) (how : How) (closing : Bool) (resumed : ℕ) (below : Chain) (world : Scene) (ks : List (Option Dozing)) (u : Option Uncaught) (out : List ℕ) → l.spot.function.generator ≡ true → Sits below w.spot u → Match (machine.settles m (waiting_at l.spot l.to l.line l.fail l.next) (stack_of (Resuming w g number closing (c.told_of how) resumed below)) (flat_around ks world) out (machine.told m how)) (c.receives rules code (around_state (landing_activation l (purpose.Resume g (c.told_of how) closing resumed)) (activation_of w.spot w.place (purpose_of below) ∷ below_of below) world ks u out) (site_for l) (purpose.Resume g (c.told_of how) closing resumed))
+  sent_match : (l : Landing) (w : Asleep) (g number : ℕ) (how : How) (closing : Bool) (resumed : ℕ) (below : Chain) (world : Scene) (ks : List (Option Dozing)) (u : Option Uncaught) (out : List ℕ) → l.spot.function.header.generator ≡ true → Sits below w.spot u → Match (machine.settles m (waiting_at l.spot l.to l.line l.fail l.next) (stack_of (Resuming w g number closing (c.told_of how) resumed below)) (flat_around ks world) out (machine.told m how)) (c.receives rules code (around_state (landing_activation l (purpose.Resume g (c.told_of how) closing resumed)) (activation_of w.spot w.place (purpose_of below) ∷ below_of below) world ks u out) (site_for l) (purpose.Resume g (c.told_of how) closing resumed))
   sent_match l w g number (Send v) closing resumed below world ks u out generator sits =
       lands l (Resuming w g number closing (told.Sent v) resumed below) world ks u out (Gives v) (generator, sits)
   sent_match l w g number (Throw e) closing resumed below world ks u out generator sits =
@@ -851,27 +849,23 @@ module _ (rules : Rules) (script : FlatScript) (plan : FlatFunction → Plan) (L
   on_used out F G h (Some (value.Str text)) w fine = subst (λ w. Match (F (value.Str text)) (G (c.used w))) (sym fine) (h (value.Str text))
   on_used out F G h (Some (value.Obj n)) w fine = subst (λ w. Match (F (value.Obj n)) (G (c.used w))) (sym fine) (h (value.Obj n))
 
-  held_fine : (a : Spot) (o : Operand) → AllByRecursion (Live a.function a.left) (operand_reads o) → Fine (machine.held (frame_of a) o) (c.held a.registers (operand_of o))
-  held_fine a (operand.Register r) all = a.agrees.live r all.0
-  held_fine a (operand.Const const.None) all = refl
-  held_fine a (operand.Const (const.Bool true)) all = refl
-  held_fine a (operand.Const (const.Bool false)) all = refl
-  held_fine a (operand.Const (const.Int z)) all = refl
-  held_fine a (operand.Const (const.Str text)) all = refl
+  held_fine : (a : Spot) (o : Operand) → AllByRecursion (Live a.function a.left) (operand_reads o) → Fine (machine.operand_value (frame_of a) o) (c.operand_value a.registers o)
+  held_fine a (operand.Temp r) all = a.agrees.live r all.0
+  held_fine a (operand.Const c) all = refl
 
-  argument_fine : (a : Spot) (o : Argument) → AllByRecursion (Live a.function a.left) (argument_reads o) → Fine (machine.argument_value (frame_of a) o) (c.argument_value a.registers (argument_of o))
+  argument_fine : (a : Spot) (o : Argument) → AllByRecursion (Live a.function a.left) (argument_reads o) → Fine (reading.argument_value (frame_of a).registers o) (c.argument_value a.registers o)
   argument_fine a (argument.Value o) all = held_fine a o all
   argument_fine a (argument.Name name) all = refl
 
-  both_fine : (x w : Option Value) (xs ws : Option (List Value)) → Fine x w → FineAll xs ws → FineAll (machine.both x xs) (c.both w ws)
+  both_fine : (x w : Option Value) (xs ws : Option (List Value)) → Fine x w → FineAll xs ws → FineAll (reading.both x xs) (reading.both w ws)
   both_fine None w xs ws f g = tt
   both_fine (Some v) w None ws f g = tt
-  both_fine (Some v) w (Some vs) ws f g = ap (λ w. c.both w ws) f ∙ ap (c.both (Some v)) g
+  both_fine (Some v) w (Some vs) ws f g = ap (λ w. reading.both w ws) f ∙ ap (reading.both (Some v)) g
 
-  values_fine : (a : Spot) (args : List Argument) → AllByRecursion (Live a.function a.left) (arguments_read args) → FineAll (machine.values (frame_of a) args) (c.values a.registers (map argument_of args))
+  values_fine : (a : Spot) (args : List Argument) → AllByRecursion (Live a.function a.left) (arguments_read args) → FineAll (machine.values (frame_of a) args) (c.values a.registers args)
   values_fine a [] all = refl
   values_fine a (o ∷ args) all =
-      both_fine (machine.argument_value (frame_of a) o) (c.argument_value a.registers (argument_of o)) (machine.values (frame_of a) args) (c.values a.registers (map argument_of args))
+      both_fine (reading.argument_value (frame_of a).registers o) (c.argument_value a.registers o) (machine.values (frame_of a) args) (c.values a.registers args)
       (argument_fine a o (all_front _ (argument_reads o) (arguments_read args) all)) (values_fine a args (all_back _ (argument_reads o) (arguments_read args) all))
 
   -- A GENERATOR PAUSES
@@ -924,7 +918,7 @@ module _ (rules : Rules) (script : FlatScript) (plan : FlatFunction → Plan) (L
   nothing_said out (Some (value.Str text)) y = λ d. absurd d
   nothing_said out (Some (value.Obj n)) y = λ d. absurd d
 
-  yields_match : (a : Spot) (n : ℕ) (chain : Chain) (world : Scene) (ks : List (Option Dozing)) (u : Option Uncaught) (out : List ℕ) (to at : ℕ) (v : Operand) (fail : ℕ) (next : List Line) → first a.left ≡ Some (flat.Yield to at v fail, next) → StandsAt a n → Sits chain a u → Match (machine.using (machine.held (frame_of a) v) (machine.undefined out) (λ w. machine.paused m (waiting_at (idle a) to at fail next) w (stack_of chain) (flat_around ks world) out)) (c.step rules code (c_state a n chain world ks u out))
+  yields_match : (a : Spot) (n : ℕ) (chain : Chain) (world : Scene) (ks : List (Option Dozing)) (u : Option Uncaught) (out : List ℕ) (to at : ℕ) (v : Operand) (fail : ℕ) (next : List Line) → first a.left ≡ Some (flat.Yield to at v fail, next) → StandsAt a n → Sits chain a u → Match (machine.using (machine.operand_value (frame_of a) v) (machine.undefined out) (λ w. machine.paused m (waiting_at (idle a) to at fail next) w (stack_of chain) (flat_around ks world) out)) (c.step rules code (c_state a n chain world ks u out))
   yields_match a n (Bottommost b) world ks u out to at v fail next e stands sits = nothing_said out _ _
   yields_match a n (Calling w after below) world ks u out to at v fail next e stands sits = nothing_said out _ _
   yields_match a n (Resuming w g number closing what resumed below) world ks u out to at v fail next e stands sits =
@@ -938,10 +932,10 @@ module _ (rules : Rules) (script : FlatScript) (plan : FlatFunction → Plan) (L
       let d : Dozing = record { spot = stocked a rs; to = to; line = at; value = v; fail = fail; next = next; first = e; saved = stored_holds 0 rs a.registers a.slots room; generator = sits.0 } in
       let t = c_state (stocked a rs) run.place chain world ks u out in
       match_before _ _ t run.comes
-      (subst (Match (machine.using (machine.held (frame_of a) v) (machine.undefined out) (λ w. machine.paused m (flat_keeps d) w (stack_of chain) (flat_around ks world) out))) (sym (step_is t f a.is _ _ run.stands))
+      (subst (Match (machine.using (machine.operand_value (frame_of a) v) (machine.undefined out) (λ w. machine.paused m (flat_keeps d) w (stack_of chain) (flat_around ks world) out))) (sym (step_is t f a.is _ _ run.stands))
       (on_used out (λ w. machine.paused m (flat_keeps d) w (stack_of chain) (flat_around ks world) out) (λ o. c.pauses rules code t (a.pause + 1) o (purpose_of chain) (below_of chain))
       (λ w'. paused_match d run.place w g number closing what resumed below world ks u out w' sits.1)
-      (machine.held (frame_of a) v) (c.held a.registers (operand_of v)) (held_fine a v ((works_at a).reads a.left x next a.part e))))
+      (machine.operand_value (frame_of a) v) (c.operand_value a.registers v) (held_fine a v ((works_at a).reads a.left x next a.part e))))
 
   -- STATEMENTS
 
@@ -1032,7 +1026,7 @@ module _ (rules : Rules) (script : FlatScript) (plan : FlatFunction → Plan) (L
     acts_match (flat.Store to a) next e =
         let x = flat.Store to a in
         as_one x next _ _ e refl
-        (on_fine j.out _ (c.stores (other j) to) (λ v. puts_match x next _ e tt refl to (small_at j.spot x next e).0 (λ r ne. (ne, tt)) v j.spot.pending) (machine.held (frame_of j.spot) a) (c.held j.spot.registers (operand_of a)) (held_fine j.spot a (reads_live x next e)))
+        (on_fine j.out _ (c.stores (other j) to) (λ v. puts_match x next _ e tt refl to (small_at j.spot x next e).0 (λ r ne. (ne, tt)) v j.spot.pending) (machine.operand_value (frame_of j.spot) a) (c.operand_value j.spot.registers a) (held_fine j.spot a (reads_live x next e)))
     acts_match (flat.Unset to) next e =
         let x = flat.Unset to in
         as_one x next _ _ e refl (puts_match x next _ e tt refl to (small_at j.spot x next e).0 (λ r ne. (ne, tt)) value.Unset j.spot.pending)
@@ -1055,7 +1049,7 @@ module _ (rules : Rules) (script : FlatScript) (plan : FlatFunction → Plan) (L
     acts_match (flat.Do to at o args fail) next e =
         let w : Asleep = record { spot = j.spot; place = j.place; to = to; line = at; op = o; args = args; fail = fail; next = next; first = e; stands = j.stands } in
         as_one (flat.Do to at o args fail) next _ _ e refl
-        (operates_match w j.chain j.world j.kept j.uncaught j.out (machine.values (frame_of j.spot) args) (c.values j.spot.registers (map argument_of args)) (values_fine j.spot args (reads_live (flat.Do to at o args fail) next e)) j.sits)
+        (operates_match w j.chain j.world j.kept j.uncaught j.out (machine.values (frame_of j.spot) args) (c.values j.spot.registers args) (values_fine j.spot args (reads_live (flat.Do to at o args fail) next e)) j.sits)
     acts_match (flat.Goto l) next e =
         as_one (flat.Goto l) next _ _ e refl (jumps_match l j.spot.pending (jump_stayed (flat.Goto l) next e l refl (λ r. tt)))
     acts_match (flat.Branch test l) next e =
@@ -1063,17 +1057,17 @@ module _ (rules : Rules) (script : FlatScript) (plan : FlatFunction → Plan) (L
         as_one x next _ _ e refl
         (on_using j.out _ (c.branches (other j) (goal_in 0 (body f) l))
         (branches_match next l (onward x next e (next_stands x next _ e refl) j.spot.registers j.spot.frame j.spot.pending (stayed x next e tt (λ r. tt))) (jumps_match l j.spot.pending (jump_stayed x next e l refl (λ r. tt))))
-        (machine.held (frame_of j.spot) test) (c.held j.spot.registers (operand_of test)) (held_fine j.spot test (reads_live x next e)))
+        (machine.operand_value (frame_of j.spot) test) (c.operand_value j.spot.registers test) (held_fine j.spot test (reads_live x next e)))
     acts_match (flat.Caught to) next e =
         let x = flat.Caught to in
         as_one x next _ _ e refl (takes_match next to (λ n. puts_match x next _ e tt refl to (small_at j.spot x next e).0 (λ r ne. (ne, tt)) (value.Obj n) None) j.spot.pending)
     acts_match (flat.Again a l) next e =
         let x = flat.Again a l in
         as_one x next _ _ e refl
-        (on_using j.out _ (c.again (other j) (goal_in 0 (body f) l)) (again_match l (jump_stayed x next e l refl (λ r. tt))) (machine.held (frame_of j.spot) a) (c.held j.spot.registers (operand_of a)) (held_fine j.spot a (reads_live x next e)))
+        (on_using j.out _ (c.again (other j) (goal_in 0 (body f) l)) (again_match l (jump_stayed x next e l refl (λ r. tt))) (machine.operand_value (frame_of j.spot) a) (c.operand_value j.spot.registers a) (held_fine j.spot a (reads_live x next e)))
     acts_match (flat.Give a) next e =
         as_one (flat.Give a) next _ _ e refl
-        (on_used j.out _ (c.returns rules code (other j)) (λ v. ended_match j.spot j.place j.chain j.world j.kept j.uncaught j.out (Return v) j.sits) (machine.held (frame_of j.spot) a) (c.held j.spot.registers (operand_of a)) (held_fine j.spot a (reads_live (flat.Give a) next e)))
+        (on_used j.out _ (c.returns rules code (other j)) (λ v. ended_match j.spot j.place j.chain j.world j.kept j.uncaught j.out (Return v) j.sits) (machine.operand_value (frame_of j.spot) a) (c.operand_value j.spot.registers a) (held_fine j.spot a (reads_live (flat.Give a) next e)))
     acts_match flat.End next e =
         as_one flat.End next _ _ e refl
         (subst (Match (machine.acts m (one j) next flat.End)) (none_given j.spot j.place j.chain j.world j.kept j.uncaught j.out)

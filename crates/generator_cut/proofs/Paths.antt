@@ -3,7 +3,7 @@ use Rattle.std.proofs.Common.{◌≡◌, ◌≢◌, ◌⊎◌, inl, inr, ⊎_eli
 use Rattle.std.specs.List.{AllByRecursion}
 use Rattle.flow_code.specs.declared.function.FlatFunction.{FlatFunction}
 use Rattle.flow_code.specs.declared.statement.Line.{Line}
-use Rattle.flow_code.specs.declared.statement.Operand.{Operand}
+use Rattle.code_forms.specs.declared.operand.Operand.{Operand}
 use Rattle.flow_code.specs.declared.statement.Statement.{Statement}
 use Rattle.flow_code.specs.declared.statement.Statement.TheVariants as flat
 use Rattle.flow_code.specs.Labels.{LabelsNumbered, leads}
@@ -43,10 +43,10 @@ module _ (body : List Line) (saved : Statement → List Line → List ℕ) where
 -- exactly the registers that are live behind a pause, but that of its value, are saved, by no other statement, and those that
 -- a path without a store leads from the beginning to a pause are cleared
 pub record IsExact (f : FlatFunction) (plan : Plan) : Type 0 where
-  pub all : f.generator ≡ true → (left : List Line) (to at : ℕ) (a : Operand) (fail : ℕ) (more : List Line) → IsPart f.body left → first left ≡ Some (flat.Yield to at a fail, more) → (r : ℕ) → r ≢ to → Live f.body plan.saved more r ⊎ Live f.body plan.saved (find fail f.body) r → Has r (plan.saved (flat.Yield to at a fail) more)
+  pub all : f.header.generator ≡ true → (left : List Line) (to at : ℕ) (a : Operand) (fail : ℕ) (more : List Line) → IsPart f.body left → first left ≡ Some (flat.Yield to at a fail, more) → (r : ℕ) → r ≢ to → Live f.body plan.saved more r ⊎ Live f.body plan.saved (find fail f.body) r → Has r (plan.saved (flat.Yield to at a fail) more)
   pub live : (left : List Line) (x : Statement) (more : List Line) → first left ≡ Some (x, more) → (r : ℕ) → Has r (plan.saved x more) → Live f.body plan.saved left r
   pub small : (x : Statement) (more : List Line) → AllByRecursion (λ r. r < f.registers) (plan.saved x more)
-  pub begins : (r : ℕ) → Held f.body plan.saved f.body r → (f.generator ≡ true) × Has r plan.cleared
+  pub begins : (r : ℕ) → Held f.body plan.saved f.body r → (f.header.generator ≡ true) × Has r plan.cleared
   pub cleared : AllByRecursion (λ r. r < f.registers) plan.cleared
   pub room : (x : Statement) (more : List Line) → length (plan.saved x more) ≤ plan.slots
 

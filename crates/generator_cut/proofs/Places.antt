@@ -348,10 +348,10 @@ low_more n m [] le h = tt
 low_more n m (flat_line.Label k ∷ left) le h = (omega (arith, h.0, le), low_more n m left le h.1)
 low_more n m (flat_line.Do x ∷ left) le h = low_more n m left le h
 
-pub body_placed : (p : Plan) (f : FlatFunction) → LabelsNumbered f.labels f.body → Placed (body_of_kind f.generator p f) (base_of f) (yields f.body) p.saved 0 f.body
+pub body_placed : (p : Plan) (f : FlatFunction) → LabelsNumbered f.labels f.body → Placed (body_of_kind f.header.generator p f) (base_of f) (yields f.body) p.saved 0 f.body
 body_placed p f h =
-    placing (body_of_kind f.generator p f) (base_of f) (yields f.body) p.saved 0 f.body (low_more f.labels (base_of f) f.body (omega arith) (low f.labels f.body h))
-    (λ l le. body_find f.generator p f l (λ e. omega (arith, e, le))) (omega arith)
+    placing (body_of_kind f.header.generator p f) (base_of f) (yields f.body) p.saved 0 f.body (low_more f.labels (base_of f) f.body (omega arith) (low f.labels f.body h))
+    (λ l le. body_find f.header.generator p f l (λ e. omega (arith, e, le))) (omega arith)
 
 -- the label of a pause among those of the switch
 pub counted_at : (k n i : ℕ) → i < k → slice_get (counted k n) i ≡ Some (n + i)

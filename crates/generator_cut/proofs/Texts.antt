@@ -5,15 +5,14 @@ use Rattle.std.proofs.lemmas.List.{length-map}
 use Rattle.std.specs.List.{AllByRecursion, flat_map}
 use Rattle.nu_value.specs.declared.header.Header.{Header}
 use Rattle.nu_value.specs.declared.header.ParamKind.{ParamKind}
-use Rattle.op_forms.specs.declared.constant.Const.TheVariants as const
 use Rattle.flow_code.specs.declared.function.FlatFunction.{FlatFunction}
 use Rattle.flow_code.specs.declared.function.FlatScript.{FlatScript}
-use Rattle.flow_code.specs.declared.statement.Argument as flat_argument
-use Rattle.flow_code.specs.declared.statement.Argument.TheVariants as argument
+use Rattle.code_forms.specs.declared.operand.Argument.{Argument}
+use Rattle.code_forms.specs.declared.operand.Argument.TheVariants as argument
 use Rattle.flow_code.specs.declared.statement.Line as flat_line
 use Rattle.flow_code.specs.declared.statement.Line.TheVariants.{Label, Do}
-use Rattle.flow_code.specs.declared.statement.Operand as flat_operand
-use Rattle.flow_code.specs.declared.statement.Operand.TheVariants as operand
+use Rattle.code_forms.specs.declared.operand.Operand.{Operand}
+use Rattle.code_forms.specs.declared.operand.Operand.TheVariants as operand
 use Rattle.flow_code.specs.declared.statement.Statement as flat_statement
 use Rattle.flow_code.specs.declared.statement.Statement.TheVariants as flat
 use Rattle.flow_code.specs.Contents.{statement_operations, statement_yields, yields}
@@ -23,9 +22,11 @@ use Rattle.flow_code.specs.Run.{header}
 use Rattle.flow_code.specs.WellFormed.{WellFormed, HasRoom}
 use Rattle.c_meaning.specs.declared.program.Line.{Line}
 use Rattle.c_meaning.specs.Written.{IsNumber, IsOperand, IsArgument, IsBodyLine, Once, has, label_of, IsParam, IsHeader, IsFunction, IsProgram}
-use Rattle.generator_cut.specs.Cut.{Plan, operand_of, argument_of, saves, loads, clears, becomes, behind, lines, counted, base_of, body_lines, body_of_kind, slots_of_kind, function_of, program_of, all_saved}
-use Rattle.generator_cut.specs.Fits.{OperandFits, ArgumentFits, StatementFits, LineFits, ParamFits, HeaderFits, FunctionFits, ScriptFits}
-use Rattle.generator_cut.specs.Writable.{IsCounted, IsNamed, IsHeading, is_taken, refused}
+use Rattle.generator_cut.specs.Cut.{Plan, saves, loads, clears, becomes, behind, lines, counted, base_of, body_lines, body_of_kind, slots_of_kind, function_of, program_of, all_saved}
+use Rattle.code_forms.specs.Fits.{OperandFits, ArgumentFits, ParamFits, HeaderFits}
+use Rattle.code_forms.specs.Taking.{is_taken}
+use Rattle.generator_cut.specs.Fits.{StatementFits, LineFits, FunctionFits, ScriptFits}
+use Rattle.generator_cut.specs.Writable.{IsCounted, IsNamed, IsHeading, refused}
 use Rattle.generator_cut.proofs.AllSaved.{counted_all, counted_length}
 use Rattle.generator_cut.proofs.Emitted.{yields_more}
 use Rattle.generator_cut.proofs.Kept.{all_counted}
@@ -35,19 +36,15 @@ use Rattle.generator_cut.proofs.Places.{all_front, all_back, same_other, equal_s
 abbrev Below : ℕ → List ℕ → Type 0
 Below n = AllByRecursion (λ r. r < n)
 
-operand_is : (n : ℕ) (a : flat_operand.Operand) → OperandFits a → Below n (operand_reads a) → IsOperand n (operand_of a)
-operand_is n (operand.Register r) fit below = below.0
-operand_is n (operand.Const const.None) fit below = tt
-operand_is n (operand.Const (const.Bool true)) fit below = tt
-operand_is n (operand.Const (const.Bool false)) fit below = tt
-operand_is n (operand.Const (const.Int z)) fit below = fit
-operand_is n (operand.Const (const.Str text)) fit below = fit
+operand_is : (n : ℕ) (a : Operand) → OperandFits a → Below n (operand_reads a) → IsOperand n a
+operand_is n (operand.Temp r) fit below = below.0
+operand_is n (operand.Const c) fit below = fit
 
-argument_is : (n : ℕ) (a : flat_argument.Argument) → ArgumentFits a → Below n (argument_reads a) → IsArgument n (argument_of a)
+argument_is : (n : ℕ) (a : Argument) → ArgumentFits a → Below n (argument_reads a) → IsArgument n a
 argument_is n (argument.Value a) fit below = operand_is n a fit below
 argument_is n (argument.Name name) fit below = fit
 
-arguments_are : (n : ℕ) (args : List flat_argument.Argument) → AllByRecursion ArgumentFits args → Below n (arguments_read args) → AllByRecursion (IsArgument n) (map argument_of args)
+arguments_are : (n : ℕ) (args : List Argument) → AllByRecursion ArgumentFits args → Below n (arguments_read args) → AllByRecursion (IsArgument n) args
 arguments_are n [] fit below = tt
 arguments_are n (a ∷ args) fit below = (
   argument_is n a fit.0 (all_front (λ r. r < n) (argument_reads a) (arguments_read args) below),
@@ -237,7 +234,7 @@ module _ (p : Plan) (f : FlatFunction) (small : IsSmall p f) (formed : WellForme
   slots_are false = omega arith
 
   function_is : IsHeading (header f) → IsFunction (function_of p f)
-  function_is heading = record { header = header_is (header f) heading fit.heading; slots = slots_are f.generator; registers = fit.registers; each = body_is f.generator; once = once_body f.generator }
+  function_is heading = record { header = header_is (header f) heading fit.heading; slots = slots_are f.header.generator; registers = fit.registers; each = body_is f.header.generator; once = once_body f.header.generator }
 
 functions_are : (fs : List FlatFunction) → AllByRecursion IsHeading (map header fs) → AllByRecursion (λ f. refused f.body ≡ 0) fs → AllByRecursion WellFormed fs → AllByRecursion HasRoom fs → AllByRecursion FunctionFits fs
     → AllByRecursion IsFunction (map (λ f. function_of (all_saved f) f) fs)

@@ -1,12 +1,11 @@
 -- Which operations and constants stand in the lines of a program, and how many pass a test.
 use Rattle.std.specs.Prelude.{ℕ, ◌+◌, List, [], ◌∷◌, Bool, if◌then◌else◌}
+use Rattle.op_forms.specs.declared.constant.Const.{Const}
 use Rattle.op_forms.specs.declared.op.Op.{Op}
-use Rattle.c_meaning.specs.declared.program.Argument.{Argument}
-use Rattle.c_meaning.specs.declared.program.Argument.TheVariants as argument
+use Rattle.code_forms.specs.declared.operand.Argument.{Argument}
+use Rattle.code_forms.specs.Contents.{operand_constants, arguments_constants}
 use Rattle.c_meaning.specs.declared.program.Line.{Line}
 use Rattle.c_meaning.specs.declared.program.Line.TheVariants as line
-use Rattle.c_meaning.specs.declared.program.Operand.{Operand}
-use Rattle.c_meaning.specs.declared.program.Operand.TheVariants as operand
 use Rattle.c_meaning.specs.declared.program.Statement.{Statement}
 use Rattle.c_meaning.specs.declared.program.Statement.TheVariants as statement
 use Rattle.c_meaning.specs.declared.program.Stored.{Stored}
@@ -26,34 +25,22 @@ statement_operations test other = 0
 abbrev pub operations : (Op → List Argument → Bool) → List Line → ℕ
 operations test lines = total (statement_operations test) lines
 
-module _ (test : Operand → Bool) where
-  abbrev pub operand_constants : Operand → ℕ
-  operand_constants (operand.Register r) = 0
-  operand_constants other = if test other then 1 else 0
-
-  abbrev pub argument_constants : Argument → ℕ
-  argument_constants (argument.Value a) = operand_constants a
-  argument_constants (argument.Name name) = 0
-
-  abbrev pub arguments_constants : List Argument → ℕ
-  arguments_constants [] = 0
-  arguments_constants (a ∷ args) = argument_constants a + arguments_constants args
-
+module _ (test : Const → Bool) where
   abbrev pub stored_constants : Stored → ℕ
-  stored_constants (stored.Value a) = operand_constants a
-  stored_constants (stored.Operation o at args fail) = arguments_constants args
+  stored_constants (stored.Value a) = operand_constants test a
+  stored_constants (stored.Operation o at args fail) = arguments_constants test args
   stored_constants other = 0
 
   abbrev pub statement_constants : Statement → ℕ
   statement_constants (statement.Store to what) = stored_constants what
-  statement_constants (statement.Branch a l) = operand_constants a
-  statement_constants (statement.Again a l) = operand_constants a
-  statement_constants (statement.Give a) = operand_constants a
-  statement_constants (statement.Save slot a) = operand_constants a
-  statement_constants (statement.Pause n a) = operand_constants a
+  statement_constants (statement.Branch a l) = operand_constants test a
+  statement_constants (statement.Again a l) = operand_constants test a
+  statement_constants (statement.Give a) = operand_constants test a
+  statement_constants (statement.Save slot a) = operand_constants test a
+  statement_constants (statement.Pause n a) = operand_constants test a
   statement_constants other = 0
 
-  -- how many constants, which are operands other than registers, pass the test
+  -- how many constants pass the test
   abbrev pub constants : List Line → ℕ
   constants lines = total statement_constants lines
 

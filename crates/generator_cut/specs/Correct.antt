@@ -3,18 +3,18 @@ use Rattle.std.specs.Prelude.{ℕ, ◌+◌, List, [], ◌∷◌, ◌≡◌, leng
 use Rattle.std.specs.List.{AllByRecursion}
 use Rattle.nu_run.specs.Runs.{IsDefined, Same}
 use Rattle.op_forms.specs.Rules.{Rules}
+use Rattle.op_forms.specs.declared.constant.Const.{Const}
 use Rattle.op_forms.specs.declared.op.Op.{Op}
 use Rattle.flow_code.specs.declared.function.FlatFunction.{FlatFunction}
 use Rattle.flow_code.specs.declared.function.FlatScript.{FlatScript}
 use Rattle.flow_code.specs.Contents as flat
 use Rattle.flow_code.specs.Run.{header, flat_run}
 use Rattle.flow_code.specs.WellFormed.{WellFormed}
-use Rattle.c_meaning.specs.declared.program.Argument.{Argument}
+use Rattle.code_forms.specs.declared.operand.Argument.{Argument}
 use Rattle.c_meaning.specs.declared.program.CProgram.{CProgram}
 use Rattle.c_meaning.specs.declared.program.Function.{Function}
-use Rattle.c_meaning.specs.declared.program.Operand.{Operand}
 use Rattle.c_meaning.specs.Run.{header_of, c_run}
-use Rattle.generator_cut.specs.Cut.{constant_of, argument_of, program_of, all_saved}
+use Rattle.generator_cut.specs.Cut.{program_of, all_saved}
 use Rattle.generator_cut.specs.Contents as c
 
 -- under all rules of operations and over every input, a program does what flat code does, where that never ends Undefined
@@ -37,8 +37,8 @@ pub record HasHeads (script : FlatScript) (program : CProgram) : Type 0 where
 -- statements; and as many registers
 pub record Keeps (f : FlatFunction) (g : Function) : Type 0 where
   pub registers : g.registers ≡ f.registers
-  pub operations : (test : Op → List Argument → Bool) → c.operations test g.body ≡ flat.operations (λ o args. test o (map argument_of args)) f.body
-  pub constants : (test : Operand → Bool) → c.constants test g.body ≡ flat.constants (λ x. test (constant_of x)) f.body
+  pub operations : (test : Op → List Argument → Bool) → c.operations test g.body ≡ flat.operations test f.body
+  pub constants : (test : Const → Bool) → c.constants test g.body ≡ flat.constants test f.body
   pub pauses : c.pauses g.body ≡ flat.yields f.body
 
 -- each function what that of the same number has

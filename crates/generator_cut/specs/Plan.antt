@@ -4,7 +4,7 @@ use Rattle.std.specs.Prelude.{◌≡◌, ◌≢◌, ◌⊎◌, ℕ, ◌≤◌, �
 use Rattle.std.specs.List.{AllByRecursion}
 use Rattle.flow_code.specs.declared.function.FlatFunction.{FlatFunction}
 use Rattle.flow_code.specs.declared.statement.Line.{Line}
-use Rattle.flow_code.specs.declared.statement.Operand.{Operand}
+use Rattle.code_forms.specs.declared.operand.Operand.{Operand}
 use Rattle.flow_code.specs.declared.statement.Statement.{Statement}
 use Rattle.flow_code.specs.declared.statement.Statement.TheVariants as flat
 use Rattle.flow_code.specs.Registers.{reads, writes, RegistersDeclared}
@@ -47,10 +47,10 @@ pub record Works (plan : Plan) (Live Held : List Line → ℕ → Type 0) (f : F
   -- what is read is live
   pub reads : (left : List Line) (x : Statement) (more : List Line) → IsPart f.body left → first left ≡ Some (x, more) → AllByRecursion (Live left) (reads x)
   -- at the beginning only cleared registers have a value
-  pub begins : (r : ℕ) → Held f.body r → (f.generator ≡ true) × Has r plan.cleared
+  pub begins : (r : ℕ) → Held f.body r → (f.header.generator ≡ true) × Has r plan.cleared
   pub cleared : AllByRecursion (λ r. r < f.registers) plan.cleared
   -- a pause saves what is live or has a value behind it; that has a value there
-  pub next : f.generator ≡ true → (left : List Line) (to at : ℕ) (a : Operand) (fail : ℕ) (more : List Line) → IsPart f.body left → first left ≡ Some (flat.Yield to at a fail, more) → (r : ℕ) → r ≢ to → Live more r ⊎ Held more r → Has r (plan.saved (flat.Yield to at a fail) more)
-  pub thrown : f.generator ≡ true → (left : List Line) (to at : ℕ) (a : Operand) (fail : ℕ) (more : List Line) → IsPart f.body left → first left ≡ Some (flat.Yield to at a fail, more) → (r : ℕ) → r ≢ to → Live (find fail f.body) r ⊎ Held (find fail f.body) r → Has r (plan.saved (flat.Yield to at a fail) more)
-  pub saved : f.generator ≡ true → (left : List Line) (x : Statement) (more : List Line) → IsPart f.body left → first left ≡ Some (x, more) → AllByRecursion (λ r. (r < f.registers) × Held left r) (plan.saved x more)
+  pub next : f.header.generator ≡ true → (left : List Line) (to at : ℕ) (a : Operand) (fail : ℕ) (more : List Line) → IsPart f.body left → first left ≡ Some (flat.Yield to at a fail, more) → (r : ℕ) → r ≢ to → Live more r ⊎ Held more r → Has r (plan.saved (flat.Yield to at a fail) more)
+  pub thrown : f.header.generator ≡ true → (left : List Line) (to at : ℕ) (a : Operand) (fail : ℕ) (more : List Line) → IsPart f.body left → first left ≡ Some (flat.Yield to at a fail, more) → (r : ℕ) → r ≢ to → Live (find fail f.body) r ⊎ Held (find fail f.body) r → Has r (plan.saved (flat.Yield to at a fail) more)
+  pub saved : f.header.generator ≡ true → (left : List Line) (x : Statement) (more : List Line) → IsPart f.body left → first left ≡ Some (x, more) → AllByRecursion (λ r. (r < f.registers) × Held left r) (plan.saved x more)
   pub room : (x : Statement) (more : List Line) → length (plan.saved x more) ≤ plan.slots

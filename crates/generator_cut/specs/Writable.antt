@@ -1,17 +1,14 @@
 -- What flat code is whose program has a text. The causes for which a text is no program's are named, but for those that `WellFormed`
 -- (flow_code) excludes and for numbers and texts that no value of their type is.
-use Rattle.std.specs.Prelude.{◌≡◌, ◌≢◌, ℕ, ◌<◌, ◌≤◌, List, [], length, map, Bool, true, false, not}
+use Rattle.std.specs.Prelude.{◌≡◌, ◌≢◌, ℕ, ◌<◌, ◌≤◌, List, [], length, true, false, not}
 use Rattle.std.specs.List.{AllByRecursion}
 use Rattle.nu_value.specs.declared.header.Header.{Header}
 use Rattle.nu_value.specs.declared.header.ParamKind.{ParamKind}
-use Rattle.op_forms.specs.declared.op.Op.{Op}
-use Rattle.op_forms.specs.Signature.{arguments, further}
 use Rattle.flow_code.specs.declared.function.FlatScript.{FlatScript}
-use Rattle.flow_code.specs.declared.statement.Argument.{Argument}
+use Rattle.code_forms.specs.Taking.{is_taken}
 use Rattle.flow_code.specs.declared.statement.Line.{Line}
 use Rattle.flow_code.specs.Contents.{operations}
-use Rattle.c_meaning.specs.Written.{all_taken, has, in_order}
-use Rattle.generator_cut.specs.Cut.{argument_of}
+use Rattle.c_meaning.specs.Written.{has, in_order}
 
 -- at least one function is the script's, and there are 65,535 at most
 pub record IsCounted (script : FlatScript) : Type 0 where
@@ -29,10 +26,6 @@ pub record IsHeading (h : Header) : Type 0 where
   pub params : AllByRecursion IsNamed h.params
   pub order : in_order 0 h.params ≡ true
   pub from_one : 0 < h.line
-
--- whether an operation takes such arguments
-abbrev pub is_taken : Op → List Argument → Bool
-is_taken o args = all_taken (arguments o) (further o) (map argument_of args)
 
 -- how many operations stand that no C text has
 abbrev pub refused : List Line → ℕ

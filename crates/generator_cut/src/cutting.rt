@@ -10,10 +10,10 @@ ghost use Rattle.generator_cut.specs.Correct.{DoesTheSame, HasHeads, KeepsEach};
 ghost use Rattle.generator_cut.specs.Fits.{FunctionFits, ScriptFits};
 ghost use Rattle.generator_cut.specs.Writable.{IsCounted, IsHeading, refused};
 
-use crate::copies::{header, text};
 use crate::pauses::{numbers, put_beginning};
 use crate::statements::put_lines;
 use c_meaning::{CProgram, Function};
+use code_forms::{share_header, share_text};
 use flow_code::{FlatFunction, FlatScript};
 use sqlite_items::Items;
 use std::alloc::{AllocError, Global};
@@ -28,13 +28,17 @@ fn function(alloc: Global, function: &FlatFunction) -> Result<Function, AllocErr
     let saved = numbers(alloc, registers, 0)?;
     let body = function.body.as_slice();
     let mut out = Vec::new(alloc);
-    if function.generator {
+    if function.header.generator {
         put_beginning(alloc, &mut out, labels, &saved, body)?;
     }
     put_lines(alloc, &mut out, labels + 1, &saved, body)?;
     Ok(Function {
-        header: header(alloc, function)?,
-        slots: if function.generator { registers } else { 0 },
+        header: share_header(alloc, &function.header)?,
+        slots: if function.header.generator {
+            registers
+        } else {
+            0
+        },
         registers,
         body: Items::from_vec(out),
     })
@@ -64,7 +68,7 @@ fn program(alloc: Global, script: &FlatScript) -> Result<CProgram, AllocError>
     let functions = functions(alloc, script.functions.as_slice())?;
     let builtins = script.functions.len() as u32 - script.scripts;
     Ok(CProgram {
-        name: text(&script.name)?,
+        name: share_text(&script.name)?,
         scripts: script.scripts,
         builtins,
         functions,

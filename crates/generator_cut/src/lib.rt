@@ -1,7 +1,6 @@
 //! The C program of flat code, with its pauses as resume numbers and slots.
 #![tactic(auto)]
 
-mod copies;
 mod cutting;
 mod pauses;
 mod statements;

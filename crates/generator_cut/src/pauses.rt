@@ -7,7 +7,8 @@ ghost use Rattle.c_meaning.specs.declared.program.Line.TheVariants as c_line;
 ghost use Rattle.c_meaning.specs.declared.program.Statement.TheVariants as statement;
 ghost use Rattle.generator_cut.specs.Cut.{saves, loads, clears, behind, counted};
 
-use c_meaning::{Line, Operand, Statement, Stored};
+use c_meaning::{Line, Statement, Stored};
+use code_forms::Operand;
 use sqlite_items::Items;
 use std::alloc::{AllocError, Global};
 
@@ -37,7 +38,7 @@ fn put_saves(out: &mut Vec<Line>, saved: &[u64]) -> Result<(), AllocError>
             out,
             Statement::Save {
                 slot,
-                value: Operand::Register(saved[index]),
+                value: Operand::Temp(saved[index]),
             },
         )?;
     }

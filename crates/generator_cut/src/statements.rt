@@ -8,9 +8,9 @@ ghost use Rattle.c_meaning.specs.declared.program.Line.{Line as CLine};
 ghost use Rattle.generator_cut.specs.Cut.{becomes, behind_line, lines as cut_lines};
 ghost use Rattle.generator_cut.specs.Fits.{StatementFits, LineFits};
 
-use crate::copies::{arguments, operand};
 use crate::pauses::{after, mark, put, put_pause};
 use c_meaning::{Line, Statement, Stored};
+use code_forms::share_arguments;
 use std::alloc::{AllocError, Global};
 
 // A statement, where so many pauses stand before it.
@@ -29,7 +29,7 @@ fn put_statement(
 {
     match statement {
         flow_code::Statement::Store { to, value } => {
-            let what = Stored::Value(operand(value)?);
+            let what = Stored::Value(value.share()?);
             put(out, Statement::Store { to: *to, what })
         }
         flow_code::Statement::Unset { to } => put(
@@ -60,7 +60,7 @@ fn put_statement(
             args,
             fail,
         } => {
-            let arguments = arguments(alloc, args.as_slice())?;
+            let arguments = share_arguments(alloc, args.as_slice())?;
             put(
                 out,
                 Statement::Store {
@@ -76,7 +76,7 @@ fn put_statement(
         }
         flow_code::Statement::Goto { label } => put(out, Statement::Goto(*label)),
         flow_code::Statement::Branch { test, label } => {
-            let test = operand(test)?;
+            let test = test.share()?;
             put(
                 out,
                 Statement::Branch {
@@ -93,7 +93,7 @@ fn put_statement(
             },
         ),
         flow_code::Statement::Again { value, label } => {
-            let exception = operand(value)?;
+            let exception = value.share()?;
             put(
                 out,
                 Statement::Again {
@@ -103,7 +103,7 @@ fn put_statement(
             )
         }
         flow_code::Statement::Give { value } => {
-            let value = operand(value)?;
+            let value = value.share()?;
             put(out, Statement::Give(value))
         }
         flow_code::Statement::End => put(out, Statement::End),
@@ -114,7 +114,7 @@ fn put_statement(
             value,
             fail,
         } => {
-            let value = operand(value)?;
+            let value = value.share()?;
             put_pause(out, base + pauses, pauses + 1, saved, value)?;
             put(
                 out,

@@ -13,10 +13,10 @@ use Rattle.nu_rows.specs.Words.{ends_with, on_next, on_raised, choose}
 use Rattle.nu_calls.specs.Surroundings.{scene}
 use Rattle.nu_calls.specs.Ends.{Result, Gives, Raises, Stops, Unsaid, Begun, Over, Calls, Starts, Wakes, begun_by}
 use Rattle.nu_calls.specs.Calls.{Pause, end_of, unsaid, leave_call, leave_generator, calls, starts, goes_on, entry, began, enlisted, on_line}
-use Rattle.node_tree.specs.declared.node.Argument.{Argument}
-use Rattle.node_tree.specs.declared.node.Argument.TheVariants as argument
-use Rattle.node_tree.specs.declared.node.Operand.{Operand}
-use Rattle.node_tree.specs.declared.node.Operand.TheVariants as operand
+use Rattle.code_forms.specs.declared.operand.Argument.{Argument}
+use Rattle.code_forms.specs.declared.operand.Argument.TheVariants as argument
+use Rattle.code_forms.specs.declared.operand.Operand.{Operand}
+use Rattle.code_forms.specs.declared.operand.Operand.TheVariants as operand
 use Rattle.node_tree.specs.Blocks as tree
 use Rattle.node_tree.specs.Nodes as nodes
 use Rattle.node_redirect.specs.Redirect.{outward, leaves_by, leaves, return_flags, return_stores, leave_stores, redirect_form, redirect}
@@ -227,7 +227,7 @@ module _ (l : nodes.L) (blocks : ℕ → tree.Block) (k : ℕ) where
     used_still (Some (value.Obj i)) = tt
 
     reading_same : (a : Operand) (K D : Value → nodes.R) → ((v : Value) → Same d (K v) (D v)) → Same d (nodes.reading a K) (nodes.reading a D)
-    reading_same a K D next = next_same _ _ K D (act_same _ (λ t. used_still (nodes.held t.frame a))) next
+    reading_same a K D next = next_same _ _ K D (act_same _ (λ t. used_still (nodes.operand_value t.frame a))) next
 
     choose_same : (v : Value) (r q r' q' : nodes.R) → Same d r r' → Same d q q' → Same d (choose v r q) (choose v r' q')
     choose_same (value.Bool true) r q r' q' x y = x

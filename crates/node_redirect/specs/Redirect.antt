@@ -2,7 +2,7 @@
 -- temporaries, from t on: the value that is returned, or the exception; whether an end other than a value is pending; whether it is an
 -- exception; whether it is a return; and whether it leaves two loops.
 use Rattle.std.specs.Prelude.{ℕ, zero, suc, ◌+◌, Bool, true, false, Option, Some, None}
-use Rattle.node_tree.specs.declared.node.Operand.{Operand}
+use Rattle.code_forms.specs.declared.operand.Operand.{Operand}
 use Rattle.node_tree.specs.Blocks.{alone, puts, flag}
 use Rattle.node_tree.specs.Blocks as tree
 

@@ -2,7 +2,7 @@
 use mathlib.Core.Former.{Count}
 use Rattle.std.proofs.Common.{◌≡◌, ℕ, List, refl, ap, ◌∙◌}
 use Rattle.node_tree.specs.declared.node.Node.{Node, If, Loop, Loop', Catch, Row_of-Node, end_of-Node, more_of-Node, items-the_row-Node, items_hidden-the_row-Node-0}
-use Rattle.node_tree.specs.declared.node.Operand.{Operand}
+use Rattle.code_forms.specs.declared.operand.Operand.{Operand}
 use Rattle.node_tree.specs.Blocks as tree
 use Rattle.node_tree.specs.Tree.{form, row_block, block}
 

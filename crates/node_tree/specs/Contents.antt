@@ -3,10 +3,9 @@ use Rattle.std.specs.Prelude.{ℕ, ◌+◌, List, [], ◌∷◌, map, Bool, if�
 use Rattle.op_forms.specs.declared.constant.Const.{Const}
 use Rattle.op_forms.specs.declared.op.Op.{Op}
 use Rattle.op_forms.specs.declared.op.Op.TheVariants as op
-use Rattle.node_tree.specs.declared.node.Argument.{Argument}
-use Rattle.node_tree.specs.declared.node.Argument.TheVariants as argument
-use Rattle.node_tree.specs.declared.node.Operand.{Operand}
-use Rattle.node_tree.specs.declared.node.Operand.TheVariants as operand
+use Rattle.code_forms.specs.declared.operand.Argument.{Argument}
+use Rattle.code_forms.specs.declared.operand.Argument.TheVariants as argument
+use Rattle.code_forms.specs.Contents.{operand_constants, arguments_constants}
 use Rattle.node_tree.specs.Blocks as tree
 
 -- a sum over the statements of a block, those inside others too
@@ -34,27 +33,15 @@ abbrev pub operations : (Op → List Argument → Bool) → tree.Block → ℕ
 operations test b = total (form_operations test) b
 
 module _ (test : Const → Bool) where
-  abbrev pub operand_constants : Operand → ℕ
-  operand_constants (operand.Temp t) = 0
-  operand_constants (operand.Const c) = if test c then 1 else 0
-
-  abbrev pub argument_constants : Argument → ℕ
-  argument_constants (argument.Value a) = operand_constants a
-  argument_constants (argument.Name name) = 0
-
-  abbrev pub arguments_constants : List Argument → ℕ
-  arguments_constants [] = 0
-  arguments_constants (a ∷ args) = argument_constants a + arguments_constants args
-
   abbrev pub form_constants : tree.Form → ℕ
   form_constants (tree.Constant to c) = if test c then 1 else 0
-  form_constants (tree.Do to line o args) = arguments_constants args
+  form_constants (tree.Do to line o args) = arguments_constants test args
   form_constants (tree.Call to line function args) =
-      arguments_constants (argument.Value function ∷ map argument.Value args)
-  form_constants (tree.Yield to line a) = operand_constants a
-  form_constants (tree.If a y n) = operand_constants a
-  form_constants (tree.Return a) = operand_constants a
-  form_constants (tree.Raise a) = operand_constants a
+      arguments_constants test (argument.Value function ∷ map argument.Value args)
+  form_constants (tree.Yield to line a) = operand_constants test a
+  form_constants (tree.If a y n) = operand_constants test a
+  form_constants (tree.Return a) = operand_constants test a
+  form_constants (tree.Raise a) = operand_constants test a
   form_constants other = 0
 
   -- how many constants pass the test

@@ -10,10 +10,12 @@ use Rattle.op_forms.specs.Constants.{value_of}
 use Rattle.nu_rows.specs.Rows.{End, Next, Leave, Raised, Return, Stopped, Undefined, Effect, Row, Act, Then, Loop, Sub, Entry, Instead}
 use Rattle.nu_rows.specs.Words.{ends_with, on_next, on_raised, choose, quiet}
 use Rattle.nu_calls.specs.Calls.{State, state_of, Language, unsaid, operates, on_line, yields}
-use Rattle.node_tree.specs.declared.node.Argument.{Argument}
-use Rattle.node_tree.specs.declared.node.Argument.TheVariants as argument
-use Rattle.node_tree.specs.declared.node.Operand.{Operand}
-use Rattle.node_tree.specs.declared.node.Operand.TheVariants as operand
+use Rattle.code_forms.specs.declared.operand.Argument.{Argument}
+use Rattle.code_forms.specs.declared.operand.Argument.TheVariants as argument
+use Rattle.code_forms.specs.declared.operand.Operand.{Operand}
+pub use Rattle.code_forms.specs.Reading.{both}
+use Rattle.code_forms.specs.Reading.{argument_values}
+use Rattle.code_forms.specs.Reading as reading
 use Rattle.node_tree.specs.Blocks as tree
 
 -- a frame of a code: what it was handed for its parameters and free cells, and its temporaries, some without a value
@@ -48,9 +50,8 @@ abbrev pub write_row : ℕ → Value → R
 write_row to v = Act (λ s. quiet (writes s to v))
 
 -- what an operand holds, Unset too
-abbrev pub held : Frame → Operand → Option Value
-held f (operand.Temp t) = f.temps t
-held f (operand.Const c) = Some (value_of c)
+abbrev pub operand_value : Frame → Operand → Option Value
+operand_value f a = reading.operand_value f.temps a
 
 -- a value that is used; nothing is said of Unset, and of what has no value
 abbrev pub used : Option Value → End
@@ -65,7 +66,7 @@ given (Some v) = Return v
 
 -- an operand is read
 abbrev pub reading : Operand → (Value → R) → R
-reading a k = Then (Act (λ s. record { out = []; state = s; end = used (held s.frame a) })) (on_next k)
+reading a k = Then (Act (λ s. record { out = []; state = s; end = used (operand_value s.frame a) })) (on_next k)
 
 -- a value goes to a temporary, which becomes Unset where an exception is raised
 abbrev pub stored : ℕ → End → R
@@ -79,19 +80,12 @@ stored to Undefined = ends_with Undefined
 abbrev pub storing : ℕ → R → R
 storing to r = Then r (stored to)
 
--- the arguments of an operation, if all have a value
 abbrev pub argument_value : Frame → Argument → Option Value
-argument_value f (argument.Value a) = held f a
-argument_value f (argument.Name name) = Some (value.Str name)
+argument_value f a = reading.argument_value f.temps a
 
-abbrev pub both : Option Value → Option (List Value) → Option (List Value)
-both (Some v) (Some vs) = Some (v ∷ vs)
-both None vs = None
-both (Some v) None = None
-
+-- the arguments of an operation, if all have a value
 abbrev pub values : Frame → List Argument → Option (List Value)
-values f [] = Some []
-values f (a ∷ args) = both (argument_value f a) (values f args)
+values f args = argument_values f.temps args
 
 abbrev pub operates_on : L → Op → State Frame → Option (List Value) → Entry (State Frame) Item
 operates_on l o s (Some args) = operates l o args s
@@ -143,7 +137,7 @@ abbrev mutual
   form_row l (tree.Loop body) = Loop (block_row l body) (OfLoop body)
   form_row l (tree.Leave levels) = ends_with (leave_end levels)
   form_row l (tree.Catch to body handler) = Then (block_row l body) (on_raised (handled to (block_row l handler)))
-  form_row l (tree.Return a) = Act (λ s. record { out = []; state = s; end = given (held s.frame a) })
+  form_row l (tree.Return a) = Act (λ s. record { out = []; state = s; end = given (operand_value s.frame a) })
   form_row l (tree.Raise a) = reading a raise_row
   form_row l (tree.Unset to) = write_row to value.Unset
 

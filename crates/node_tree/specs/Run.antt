@@ -15,11 +15,11 @@ use Rattle.node_tree.specs.Nodes.{Frame, Item, OfCode, L, block_row, item_row}
 abbrev pub begun_frame : Bool → ℕ → List Value → List Value → Option NodeCode → Option Frame
 begun_frame kind code given cells None = None
 begun_frame kind code given cells (Some c) =
-    if of_kind kind c.generator && (nat_le (length c.params) (length given) && nat_le c.free (length cells)) then Some (record { code = code; given = given; cells = cells; temps = slice_get (take (length c.params) given ++ take c.free cells) }) else None
+    if of_kind kind c.header.generator && (nat_le (length c.header.params) (length given) && nat_le c.free (length cells)) then Some (record { code = code; given = given; cells = cells; temps = slice_get (take (length c.header.params) given ++ take c.free cells) }) else None
 
 -- what stands before the body of a code
 abbrev pub header : NodeCode → Header
-header c = record { scope = c.scope; params = c.params; generator = c.generator; line = c.line }
+header c = c.header
 
 abbrev pub language : Rules → NodeScript → L
 language rules script = record {

@@ -9,7 +9,8 @@ mod temps;
 
 ghost use Rattle.node_tree.specs.Laws.{NodeRunsAreMonotone, BlocksGoOn, BlocksAppend};
 
-pub use node::{Argument, Block, Node, Operand, share_constant};
+pub use code_forms::{Argument, Operand};
+pub use node::{Block, Node};
 pub use script::{NodeCode, NodeScript};
 pub use temps::Temps;
 

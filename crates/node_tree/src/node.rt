@@ -1,51 +1,8 @@
 //! The primitive statements.
 
-ghost use Rattle.std.specs.Prelude.{◌≡◌, IfOk};
-
-use nu_text::RcStr;
+use code_forms::{Argument, Operand};
 use op_forms::{Const, Op};
 use sqlite_items::Items;
-use std::alloc::AllocError;
-
-/// What a node reads.
-#[derive(Drop)]
-pub enum Operand {
-    /// The temporary of this number.
-    Temp(u64),
-    Const(Const),
-}
-
-impl Operand {
-    /// The same operand for one owner more.
-    pub fn share(&self) -> Result<Operand, AllocError>
-        ensures { IfOk result (λ o. o ≡ self.now) }
-    {
-        match self {
-            Operand::Temp(temp) => Ok(Operand::Temp(*temp)),
-            Operand::Const(constant) => Ok(Operand::Const(share_constant(constant)?)),
-        }
-    }
-}
-
-/// The same constant for one owner more.
-pub fn share_constant(constant: &Const) -> Result<Const, AllocError>
-    ensures { IfOk result (λ copy. copy ≡ constant.now) }
-{
-    match constant {
-        Const::None => Ok(Const::None),
-        Const::Bool(truth) => Ok(Const::Bool(*truth)),
-        Const::Int(number) => Ok(Const::Int(*number)),
-        Const::Str(text) => Ok(Const::Str(text.share()?)),
-    }
-}
-
-/// What an operation takes.
-#[derive(Drop)]
-pub enum Argument {
-    Value(Operand),
-    /// A bare name.
-    Name(RcStr),
-}
 
 /// A primitive statement. `to` is the temporary that it writes.
 #[derive(Drop)]

@@ -2,20 +2,15 @@
 
 use crate::node::Block;
 use nu_text::RcStr;
-use nu_value::Shape;
+use nu_value::Header;
 use sqlite_items::Items;
 
 /// The code of a scope.
 #[derive(Drop)]
 pub struct NodeCode {
-    /// The name of the scope.
-    pub scope: RcStr,
-    pub params: Shape,
-    pub generator: bool,
+    pub header: Header,
     /// How many free cells it is handed.
     pub free: u64,
-    /// The line on which the scope begins, counted from 1.
-    pub line: u32,
     pub body: Block,
 }
 

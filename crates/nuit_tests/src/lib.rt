@@ -1,20 +1,14 @@
-//! The tests of all crates, which have none of their own: a crate with tests is proved twice.
+//! Tests of the calls of `nuit`, and so of most calls of the crates below it, which have no tests of their own: a crate with tests is
+//! proved twice. What `nuit` does not call is tested in `part_tests`.
 //!
 //! `calling` calls `nuit` over objects in memory. `commands`, `texts`, `scripts` and `refusals` are tables of such calls, as texts, with
-//! a test for each. Most calls of the other crates are run through by these; `parts` and `outside` make the others, once each, and
-//! `built_in` those for the built-in text.
+//! a test for each.
 #![tactic(auto)]
 
-#[cfg(test)]
-mod built_in;
 #[cfg(test)]
 mod calling;
 #[cfg(test)]
 mod commands;
-#[cfg(test)]
-mod outside;
-#[cfg(test)]
-mod parts;
 #[cfg(test)]
 mod refusals;
 #[cfg(test)]

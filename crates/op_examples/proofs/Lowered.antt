@@ -18,10 +18,10 @@ use Rattle.nu_value.specs.declared.value.Value.TheVariants as value
 use Rattle.op_forms.specs.Rules.{Rules}
 use Rattle.op_rules.specs.TableRules.{table_rules}
 use Rattle.nu_calls.specs.Scripts.{program_run}
-use Rattle.node_tree.specs.declared.node.Argument as argument
-use Rattle.node_tree.specs.declared.node.Argument.TheVariants as to_argument
-use Rattle.node_tree.specs.declared.node.Operand as operand_type
-use Rattle.node_tree.specs.declared.node.Operand.TheVariants as operand
+use Rattle.code_forms.specs.declared.operand.Argument as argument
+use Rattle.code_forms.specs.declared.operand.Argument.TheVariants as to_argument
+use Rattle.code_forms.specs.declared.operand.Operand as operand_type
+use Rattle.code_forms.specs.declared.operand.Operand.TheVariants as operand
 use Rattle.node_tree.specs.declared.script.NodeCode.{NodeCode}
 use Rattle.node_tree.specs.declared.script.NodeScript.{NodeScript}
 use Rattle.node_tree.specs.Blocks.{Block, Stop, Follow, Do, Call, Yield, If, Loop, Leave, Catch, Return, Raise, Unset}
@@ -34,7 +34,7 @@ use Rattle.flow_code.specs.Run.{flat_run}
 use Rattle.flow_lower.specs.Lower.{labels, function_lines}
 
 abbrev code : List ℕ → Bool → NodeCode
-code scope generator = record { scope = scope; params = []; generator = generator; free = 0; line = 1; body = [] }
+code scope generator = record { header = record { scope = scope; params = []; generator = generator; line = 1 }; free = 0; body = [] }
 
 -- a module and a generator
 abbrev script : NodeScript
@@ -53,7 +53,7 @@ node_run_of rules main generator =
 
 -- the run of its flat code
 abbrev function_of : NodeCode → Block → FlatFunction
-function_of c b = record { scope = c.scope; params = c.params; generator = c.generator; line = c.line; labels = 1 + labels b; registers = above (registers (function_lines 0 0 b)); body = function_lines 0 0 b }
+function_of c b = record { header = c.header; labels = 1 + labels b; registers = above (registers (function_lines 0 0 b)); body = function_lines 0 0 b }
 
 abbrev flat_of : Block → Block → FlatScript
 flat_of main generator = record { name = script.name; scripts = 2; functions = function_of (code (codes "<module>") false) main ∷ function_of (code (codes "g") true) generator ∷ [] }

@@ -6,15 +6,15 @@ use Rattle.nu_run.specs.Runs.{Ended}
 use Rattle.op_forms.specs.declared.constant.Const.TheVariants as const
 use Rattle.op_forms.specs.declared.op.Op.TheVariants as op
 use Rattle.op_rules.specs.TableRules.{table_rules}
-use Rattle.node_tree.specs.declared.node.Argument.TheVariants as argument
-use Rattle.node_tree.specs.declared.node.Operand.TheVariants as operand
+use Rattle.code_forms.specs.declared.operand.Argument.TheVariants as argument
+use Rattle.code_forms.specs.declared.operand.Operand.TheVariants as operand
 use Rattle.node_tree.specs.declared.node.Node.{Node, Do, Call}
 use Rattle.node_tree.specs.declared.script.NodeCode.{NodeCode}
 use Rattle.node_tree.specs.declared.script.NodeScript.{NodeScript}
 use Rattle.node_tree.specs.Run.{node_run}
 
 abbrev module_of : List Node → NodeCode
-module_of body = record { scope = codes "<module>"; params = []; generator = false; free = 0; line = 1; body = body }
+module_of body = record { header = record { scope = codes "<module>"; params = []; generator = false; line = 1 }; free = 0; body = body }
 
 abbrev script_of : List Node → NodeScript
 script_of body = record { name = codes "a.py"; scripts = 1; codes = module_of body ∷ [] }

@@ -1,12 +1,13 @@
 -- Runs of small programs, computed.
-use Rattle.std.specs.Prelude.{◌≡◌, refl, ℕ, pos, List, [], ◌∷◌, ◌++◌, false, codes, decimal}
+use Rattle.std.specs.Prelude.{◌≡◌, refl, ℕ, pos, List, [], ◌∷◌, ◌++◌, true, false, codes, decimal}
 use Rattle.nu_run.specs.declared.End.TheVariants as end
 use Rattle.nu_run.specs.Runs.{Run, Going, Ended}
+use Rattle.op_forms.specs.declared.constant.Const.TheVariants as const
 use Rattle.op_forms.specs.declared.op.Op.TheVariants as op
 use Rattle.op_rules.specs.TableRules.{table_rules}
 use Rattle.nu_calls.specs.Traceback.{entries_text}
-use Rattle.c_meaning.specs.declared.program.Argument.TheVariants as argument
-use Rattle.c_meaning.specs.declared.program.Operand.TheVariants as operand
+use Rattle.code_forms.specs.declared.operand.Argument.TheVariants as argument
+use Rattle.code_forms.specs.declared.operand.Operand.TheVariants as operand
 use Rattle.c_meaning.specs.declared.program.Stored.TheVariants as stored
 use Rattle.c_meaning.specs.declared.program.Statement.TheVariants as statement
 use Rattle.c_meaning.specs.declared.program.Line.{Line}
@@ -30,7 +31,7 @@ abbrev print_of : ℕ → Line
 print_of to = line.Do (statement.Store to (stored.Operation op.Global 1 (argument.Name (codes "print") ∷ []) 0))
 
 abbrev calls : ℕ → ℕ → Line
-calls to number = line.Do (statement.Store to (stored.Operation op.Call 1 (argument.Value (operand.Register to) ∷ argument.Value (operand.Int (pos number)) ∷ []) 0))
+calls to number = line.Do (statement.Store to (stored.Operation op.Call 1 (argument.Value (operand.Temp to) ∷ argument.Value (operand.Const (const.Int (pos number))) ∷ []) 0))
 
 -- print(7)
 prints : runs 3 (print_of 0 ∷ calls 0 7 ∷ line.Do statement.End ∷ line.Label 0 ∷ line.Do statement.Fail ∷ []) ≡ Ended (decimal 7 ++ codes "\n") end.Done
@@ -41,7 +42,7 @@ short : runs 2 (print_of 0 ∷ calls 0 7 ∷ line.Do statement.End ∷ line.Labe
 short = refl
 
 abbrev divides : ℕ → ℕ → Line
-divides x y = line.Do (statement.Store 0 (stored.Operation op.FloorDiv 3 (argument.Value (operand.Int (pos x)) ∷ argument.Value (operand.Int (pos y)) ∷ []) 0))
+divides x y = line.Do (statement.Store 0 (stored.Operation op.FloorDiv 3 (argument.Value (operand.Const (const.Int (pos x))) ∷ argument.Value (operand.Const (const.Int (pos y))) ∷ []) 0))
 
 -- 1 // 0, on line 3
 raises : runs 2 (divides 1 0 ∷ line.Do statement.End ∷ line.Label 0 ∷ line.Do statement.Fail ∷ [])
@@ -53,7 +54,7 @@ catches : runs 5 (divides 1 0 ∷ line.Label 0 ∷ line.Do (statement.Store 1 st
 catches = refl
 
 -- a register that has no value is read
-unset : runs 1 (line.Do (statement.Store 1 (stored.Value (operand.Register 0))) ∷ line.Do statement.End ∷ []) ≡ Ended [] (end.Undefined 0 0)
+unset : runs 1 (line.Do (statement.Store 1 (stored.Value (operand.Temp 0))) ∷ line.Do statement.End ∷ []) ≡ Ended [] (end.Undefined 0 0)
 unset = refl
 
 -- the run goes past the last statement
@@ -65,16 +66,16 @@ lost : runs 2 (line.Do (statement.Store 0 stored.Unset) ∷ line.Label 7 ∷ lin
 lost = refl
 
 -- a branch on a number
-untrue : runs 1 (line.Do (statement.Branch (operand.Int (pos 1)) 0) ∷ line.Label 0 ∷ line.Do statement.End ∷ []) ≡ Ended [] (end.Undefined 0 0)
+untrue : runs 1 (line.Do (statement.Branch (operand.Const (const.Int (pos 1))) 0) ∷ line.Label 0 ∷ line.Do statement.End ∷ []) ≡ Ended [] (end.Undefined 0 0)
 untrue = refl
 
 -- a pause outside a generator
-paused : runs 1 (line.Do (statement.Pause 0 operand.None) ∷ []) ≡ Ended [] (end.Undefined 0 0)
+paused : runs 1 (line.Do (statement.Pause 0 (operand.Const const.None)) ∷ []) ≡ Ended [] (end.Undefined 0 0)
 paused = refl
 
 abbrev says : ℕ → List ℕ → Line
-says to text = line.Do (statement.Store to (stored.Operation op.Call 1 (argument.Value (operand.Register to) ∷ argument.Value (operand.Str text) ∷ []) 0))
+says to text = line.Do (statement.Store to (stored.Operation op.Call 1 (argument.Value (operand.Temp to) ∷ argument.Value (operand.Const (const.Str text)) ∷ []) 0))
 
 -- a loop prints as long as it may go
-loops : runs 7 (line.Label 1 ∷ print_of 0 ∷ says 0 (codes "a") ∷ line.Do (statement.Branch operand.True 1) ∷ line.Label 0 ∷ line.Do statement.Fail ∷ []) ≡ Going (codes "a\na\n")
+loops : runs 7 (line.Label 1 ∷ print_of 0 ∷ says 0 (codes "a") ∷ line.Do (statement.Branch (operand.Const (const.Bool true)) 1) ∷ line.Label 0 ∷ line.Do statement.Fail ∷ []) ≡ Going (codes "a\na\n")
 loops = refl

@@ -9,6 +9,7 @@ use Rattle.nu_value.specs.declared.value.Value.TheVariants as value
 use Rattle.nu_value.specs.Keyed.{object_kind}
 use Rattle.nu_value.specs.Names.{NameList}
 use Rattle.nu_value.specs.Natives.{native_classes}
+use Rattle.nu_value.specs.Pairs.{PairList}
 use Rattle.nu_value.specs.View.{is_text}
 use Rattle.op_forms.specs.declared.end.After.{After}
 use Rattle.op_forms.specs.declared.end.After.TheVariants as behind
@@ -140,15 +141,20 @@ ChangeOf c w Finish = Unit {0}
 ChangeOf c w (Put key given v) = c.of given × c.of v × HasKey w.heap key given
 ChangeOf c w (Fit pairs) = PairsOf c.of pairs × AreKeysDistinct pairs × AreKeyed w.heap pairs
 
+-- pairs have texts as keys where those of a dict do
+abbrev pub KeepsTextsOf : Option Object → PairList → Type 0
+KeepsTextsOf (Some (object.Dict old)) pairs = are_texts old ≡ true → are_texts pairs ≡ true
+KeepsTextsOf other pairs = Unit {0}
+
 -- a dict that has texts as keys keeps them
-abbrev pub KeepsTexts : Change → Type 0
-KeepsTexts (Put key given v) = is_text given ≡ true
-KeepsTexts (Fit pairs) = are_texts pairs ≡ true
-KeepsTexts other = Unit {0}
+abbrev pub KeepsTexts : Change → Option Object → Type 0
+KeepsTexts (Put key given v) o = is_text given ≡ true
+KeepsTexts (Fit pairs) o = KeepsTextsOf o pairs
+KeepsTexts other o = Unit {0}
 
 abbrev pub SetOf : Claim → World → Option (ℕ × Change) → Type 0
 SetOf c w None = Unit {0}
-SetOf c w (Some p) = ChangeOf c w p.1 × (c.of (value.Obj p.0) ⊎ KeepsTexts p.1)
+SetOf c w (Some p) = ChangeOf c w p.1 × (c.of (value.Obj p.0) ⊎ KeepsTexts p.1 (slice_get w.heap p.0))
 
 -- a code takes so many values, and is a generator's or not
 pub record Takes (headers : List Header) (code : ℕ) (generator : Bool) (given : List Value) : Type 0 where

@@ -6,7 +6,7 @@ use Rattle.nu_value.specs.declared.object.Object.{Object}
 use Rattle.nu_value.specs.declared.object.Object.TheVariants as object
 use Rattle.nu_value.specs.Keyed.{key}
 use Rattle.nu_value.specs.declared.key.Atom.{Atom}
-use Rattle.nu_value.specs.Names.{NameList, place_of}
+use Rattle.nu_value.specs.Names.{NameList, AreDistinct}
 use Rattle.nu_value.specs.Natives.{native_classes}
 use Rattle.nu_value.specs.Pairs.{PairList, key_place}
 use Rattle.op_forms.specs.declared.end.After.{After}
@@ -72,8 +72,7 @@ AreCells h (v ∷ vs) = IsCell h v × AreCells h vs
 
 -- no name stands twice
 abbrev pub AreNamesDistinct : NameList → Type 0
-AreNamesDistinct [] = Unit {0}
-AreNamesDistinct (p ∷ ps) = (place_of ps p.0 ≡ length ps) × AreNamesDistinct ps
+AreNamesDistinct ps = AreDistinct ps
 
 -- no key stands twice
 abbrev pub AreKeysDistinct : PairList → Type 0

@@ -11,7 +11,7 @@ use Rattle.op_forms.specs.declared.world.World.{World}
 use Rattle.op_forms.specs.Doing.{ends}
 use Rattle.op_forms.specs.Right.{Claim, Known, Closed, Given, EndOf, Right}
 use Rattle.op_rules.specs.Access.{other_iter, iter_of, other_next, next_of, asks_iterator, other_row}
-use Rattle.op_rules.proofs.Asking.{asks_right}
+use Rattle.op_rules.proofs.Asks.{asks_right}
 use Rattle.op_rules.proofs.Plain.{plain_right, int_plain}
 use Rattle.op_rules.proofs.Usual.{ended, fails, failed, idle}
 

@@ -31,7 +31,7 @@ use Rattle.op_rules.specs.Kinds.{value_error}
 use Rattle.op_rules.specs.Calls.{keyword_into, keywords_of, items_at, keywords_at, call_class, call_by, call_builtin, call_object, call_value, are_cells, code_of, func_made, func_by, func_row}
 use Rattle.op_rules.specs.Construction.{method_as, object_at, method_in, is_exception_class, made_of, takes_keywords, exception_made, instance_made, plainly_made, natively_made, made_by_function, made_with, construct, object_row, range_by, range_row, is_left_out, native_class}
 use Rattle.op_rules.specs.NativeCalls.{text_of, printed, print_row, written, write_row, line_row, is_nextable, nextable_row, resume_on, resume_row, getattr_row, length_row, native_end, native_called}
-use Rattle.op_rules.proofs.Asking.{asks_right}
+use Rattle.op_rules.proofs.Asks.{asks_right}
 use Rattle.op_rules.proofs.Usual.{ended, fails, failed, idle, made_right, if_right, if_end}
 
 and_left : (a b : Bool) → (a && b) ≡ true → a ≡ true

@@ -542,9 +542,6 @@ two_is op.Not (const.Int x) b = refl
 two_is op.Not (const.Str x) b = refl
 two_is other a b = refl
 
-one_in : (a : Const) → (is_in 0 (value_of a) && true) ≡ true
-one_in a = rw (in_const a) refl
-
 one_is : (o : Op) (a : Const) → folded o (a ∷ []) ≡ one_folded o a
 one_is op.Neg const.None = refl
 one_is op.Neg (const.Bool true) = refl
@@ -566,8 +563,7 @@ one_is op.Not (const.Bool x) = refl
 one_is op.Not (const.Int x) = refl
 one_is op.Not (const.Str x) = refl
 one_is op.Truth const.None = refl
-one_is op.Truth (const.Bool true) = refl
-one_is op.Truth (const.Bool false) = refl
+one_is op.Truth (const.Bool x) = refl
 one_is op.Truth (const.Int x) = refl
 one_is op.Truth (const.Str x) = refl
 one_is op.Eq a = left _ _ (one_false a)

@@ -3,7 +3,7 @@ mod Division
 mod Powers
 pub mod Usual
 pub mod Plain
-pub mod Asking
+pub mod Asks
 pub mod Begun
 pub mod Calls
 pub mod Access

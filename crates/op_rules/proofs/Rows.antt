@@ -22,7 +22,7 @@ use Rattle.op_forms.proofs.Bindings.{value_of}
 use Rattle.op_rules.specs.declared.family.Family.{Family}
 use Rattle.op_rules.specs.declared.family.Family.TheVariants as family
 use Rattle.op_rules.specs.Finish.{tuple_after, finishing}
-use Rattle.op_rules.specs.NameRows.{no_local, no_free, value_or, global_row, without_at, set_or, local_row, held, held_by, cellset_row, emptied, spaceget_row, spaceset_row, spacedel_row, native_row, names}
+use Rattle.op_rules.specs.NameRows.{no_local, no_free, value_or, global_row, without_at, set_or, local_row, content, content_of, cellset_row, empties, spaceget_row, spaceset_row, spacedel_row, native_row, names}
 use Rattle.op_rules.specs.declared.callees.Route.{Route}
 use Rattle.op_rules.specs.declared.callees.Route.TheVariants.{Operation, BuiltIn, Itself}
 use Rattle.op_rules.specs.Calls.{callee, given_args, given_names, call_row}
@@ -72,22 +72,22 @@ module _ (c : Claim) (w : World) (k : Closed c w) where
   local_right : (v : Value) (name : List ℕ) → OrUnset c.of v → Right c w (ends (local_row v name))
   local_right v name p = ended c w k (local_row v name) (set_right (no_local name) v p (fails c w k 31 _ (lit< tt)))
 
-  held_at : (n : ℕ) (o : Option Object) → Known c w n o → OrUnset c.of (held o)
+  held_at : (n : ℕ) (o : Option Object) → Known c w n o → OrUnset c.of (content o)
   held_at n (Some (object.Cell v)) p = p.parts
   held_at n o p = tt
 
-  held_right : (cell : Value) → OrUnset c.of (held_by w.heap cell)
+  held_right : (cell : Value) → OrUnset c.of (content_of w.heap cell)
   held_right (value.Obj n) = held_at n (slice_get w.heap n) (k.objects n)
   held_right cell = tt
 
-  get_right : (other : OpEnd) (cell : Value) → EndOf c w other → Right c w (ends (set_or other (held_by w.heap cell)))
-  get_right other cell q = ended c w k _ (set_right other (held_by w.heap cell) (held_right cell) q)
+  get_right : (other : OpEnd) (cell : Value) → EndOf c w other → Right c w (ends (set_or other (content_of w.heap cell)))
+  get_right other cell q = ended c w k _ (set_right other (content_of w.heap cell) (held_right cell) q)
 
   cellset_right : (cell v : Value) → OrUnset c.of v → Right c w (cellset_row cell v)
   cellset_right (value.Obj n) v p = change_right c w k n (Hold v) (p, inr tt)
   cellset_right cell v p = idle c w k
 
-  emptied_right : (cell : Value) (other : OpEnd) (v : Value) → EndOf c w other → Right c w (emptied cell other v)
+  emptied_right : (cell : Value) (other : OpEnd) (v : Value) → EndOf c w other → Right c w (empties cell other v)
   emptied_right cell other value.Unset q = ended c w k other q
   emptied_right cell other v q = cellset_right cell value.Unset tt
 
@@ -119,9 +119,9 @@ module _ (c : Claim) (w : World) (k : Closed c w) where
   names_right op.Cell [] q = made_right c w k (object.Cell value.Unset) (tt, tt, tt)
   names_right op.CellSet (cell ∷ v ∷ []) q = cellset_right cell v (set_of v q.1.0)
   names_right op.CellGet (cell ∷ value.Str name ∷ []) q = get_right (no_local name) cell (fails c w k 31 _ (lit< tt))
-  names_right op.CellDel (cell ∷ value.Str name ∷ []) q = emptied_right cell (no_local name) (held_by w.heap cell) (fails c w k 31 _ (lit< tt))
+  names_right op.CellDel (cell ∷ value.Str name ∷ []) q = emptied_right cell (no_local name) (content_of w.heap cell) (fails c w k 31 _ (lit< tt))
   names_right op.FreeGet (cell ∷ value.Str name ∷ []) q = get_right (no_free name) cell (fails c w k 30 _ (lit< tt))
-  names_right op.FreeDel (cell ∷ value.Str name ∷ []) q = emptied_right cell (no_free name) (held_by w.heap cell) (fails c w k 30 _ (lit< tt))
+  names_right op.FreeDel (cell ∷ value.Str name ∷ []) q = emptied_right cell (no_free name) (content_of w.heap cell) (fails c w k 30 _ (lit< tt))
   names_right op.Space [] q = made_right c w k (object.Space []) (tt, tt, tt)
   names_right op.SpaceGet (space ∷ value.Str name ∷ []) q = ended c w k (spaceget_row w space name) (value_right _ _ (space_right space name) (global_end name))
   names_right op.SpaceSet (space ∷ value.Str name ∷ v ∷ []) q = spaceset_right space name v q.1.1.0

@@ -58,7 +58,6 @@ under codes n base small a =
 
 -- names with values that are there stay such, and distinct
 with_all_in : (ps qs : NameList) → NamesIn start ps → NamesOf (IsIn start) qs → NamesIn start (with_all ps qs)
-unfolding with_all
 with_all_in ps [] p q = p
 with_all_in ps (r ∷ qs) p q =
     with_all_in (with_name ps r.0 r.1) qs (names_with (IsIn start) ps r.0 r.1 p.0 q.0, distinct_with ps r.0 r.1 p.1) q.1
@@ -67,7 +66,6 @@ below : (n : ℕ) → n < 62 → n < length start
 below n h = h
 
 numbered_in : (n : ℕ) (names : List (List ℕ)) → n + length names ≤ 61 → NamesOf (IsIn start) (numbered n names)
-unfolding numbered
 numbered_in n [] small = tt
 numbered_in n (name ∷ names) small = (below n (omega (arith, small)), numbered_in (n + 1) names (omega (arith, small)))
 

@@ -1,6 +1,6 @@
 -- The usual doings are right where what they use is.
 use Rattle.std.proofs.Common.{ℕ, ◌<◌, List, Bool, true, false, length, inl}
-use Rattle.std.specs.Prelude.{◌⊎◌, if◌then◌else◌}
+use Rattle.std.specs.Prelude.{◌⊎◌, if◌then◌else◌, slice_get}
 use Rattle.nu_value.specs.declared.object.Object.{Object}
 use Rattle.nu_value.specs.declared.value.Value.{Value}
 use Rattle.nu_value.specs.declared.value.Value.TheVariants as value
@@ -30,10 +30,10 @@ module _ (c : Claim) (w : World) (k : Closed c w) where
   pub given_right : (v : Value) → c.of v → Right c w (gives v)
   given_right v p = ended (opend.Give v) p
 
-  pub change_right : (n : ℕ) (x : Change) → ChangeOf c w x × (c.of (value.Obj n) ⊎ KeepsTexts x) → Right c w (changes n x)
+  pub change_right : (n : ℕ) (x : Change) → ChangeOf c w x × (c.of (value.Obj n) ⊎ KeepsTexts x (slice_get w.heap n)) → Right c w (changes n x)
   change_right n x p = λ news. record { end = k.plain value.None tt; set = p; made = tt }
 
-  pub giving_right : (n : ℕ) (x : Change) (v : Value) → ChangeOf c w x × (c.of (value.Obj n) ⊎ KeepsTexts x) → c.of v → Right c w (changes_giving n x v)
+  pub giving_right : (n : ℕ) (x : Change) (v : Value) → ChangeOf c w x × (c.of (value.Obj n) ⊎ KeepsTexts x (slice_get w.heap n)) → c.of v → Right c w (changes_giving n x v)
   giving_right n x v p q = λ news. record { end = q; set = p; made = tt }
 
   pub made_right : (o : Object) → PartsOf c.of o × LinksIn (length w.codes) w.heap (length w.heap) o × NewOf c w o → Right c w (makes w.heap o)

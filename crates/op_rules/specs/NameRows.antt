@@ -58,33 +58,33 @@ local_row v name = set_or (no_local name) v
 abbrev pub cell_row : List Object → Doing
 cell_row h = makes h (object.Cell value.Unset)
 
-abbrev pub held : Option Object → Value
-held (Some (object.Cell v)) = v
-held other = value.Unset
+abbrev pub content : Option Object → Value
+content (Some (object.Cell v)) = v
+content other = value.Unset
 
-abbrev pub held_by : List Object → Value → Value
-held_by h cell = held (object_of h cell)
+abbrev pub content_of : List Object → Value → Value
+content_of h cell = content (object_of h cell)
 
 abbrev pub cellset_row : Value → Value → Doing
 cellset_row (value.Obj n) v = changes n (Hold v)
 cellset_row other v = nothing
 
 -- a cell that holds something is emptied
-abbrev pub emptied : Value → OpEnd → Value → Doing
-emptied cell other value.Unset = ends other
-emptied cell other v = cellset_row cell value.Unset
+abbrev pub empties : Value → OpEnd → Value → Doing
+empties cell other value.Unset = ends other
+empties cell other v = cellset_row cell value.Unset
 
 abbrev pub cellget_row : List Object → Value → List ℕ → OpEnd
-cellget_row h cell name = set_or (no_local name) (held_by h cell)
+cellget_row h cell name = set_or (no_local name) (content_of h cell)
 
 abbrev pub celldel_row : List Object → Value → List ℕ → Doing
-celldel_row h cell name = emptied cell (no_local name) (held_by h cell)
+celldel_row h cell name = empties cell (no_local name) (content_of h cell)
 
 abbrev pub freeget_row : List Object → Value → List ℕ → OpEnd
-freeget_row h cell name = set_or (no_free name) (held_by h cell)
+freeget_row h cell name = set_or (no_free name) (content_of h cell)
 
 abbrev pub freedel_row : List Object → Value → List ℕ → Doing
-freedel_row h cell name = emptied cell (no_free name) (held_by h cell)
+freedel_row h cell name = empties cell (no_free name) (content_of h cell)
 
 -- a class's names while its block runs (reference, section 7.8)
 abbrev pub space_row : List Object → Doing

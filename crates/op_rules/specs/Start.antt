@@ -10,7 +10,7 @@ use Rattle.op_forms.specs.declared.world.World.{World}
 use Rattle.op_rules.specs.declared.first_objects.TheConstants.{CLASS_NAMES, NATIVE_FUNCTIONS}
 
 -- names that get values, from the first on
-unfoldable pub with_all : NameList → NameList → NameList
+abbrev pub with_all : NameList → NameList → NameList
 with_all ps [] = ps
 with_all ps (p ∷ more) = with_all (with_name ps p.0 p.1) more
 
@@ -22,7 +22,7 @@ abbrev pub native_functions : List (List ℕ)
 native_functions = map (λ entry. entry.now) NATIVE_FUNCTIONS
 
 -- objects from a number on, by these names
-unfoldable pub numbered : ℕ → List (List ℕ) → NameList
+abbrev pub numbered : ℕ → List (List ℕ) → NameList
 numbered n [] = []
 numbered n (name ∷ names) = (name, value.Obj n) ∷ numbered (n + 1) names
 

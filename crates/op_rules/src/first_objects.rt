@@ -1,7 +1,7 @@
 //! The objects with which a run begins: behind the native classes the built-in names, their native functions, and the names of the
 //! module.
 
-ghost use Rattle.std.specs.Prelude.{◌≡◌, ◌+◌, ◌<◌, ◌^◌, ◌++◌, IfOk, OnOk, length, map};
+ghost use Rattle.std.specs.Prelude.{◌≡◌, ◌+◌, ◌<◌, ◌^◌, ◌++◌, [], IfOk, OnOk, length, map};
 ghost use Rattle.nu_value.specs.declared.value.Value.TheVariants as value;
 ghost use Rattle.nu_value.specs.Natives.{native_classes};
 ghost use Rattle.op_rules.specs.Start as spec;
@@ -70,7 +70,6 @@ pub const NATIVE_FUNCTIONS: [&str; 23] = [
 ];
 
 // Names of classes get these as their values.
-#[tactic(auto, unfolding(crate::specs::Start::with_all))]
 fn name_classes(alloc: Global, names: &mut Names, classes: &[(&str, u64)]) -> Result<(), AllocError>
     ensures { OnOk result (names.new ≡ spec.with_all names.old (map (λ c. (c.0.now, value.Obj c.1)) classes.now)) }
 {
@@ -84,7 +83,6 @@ fn name_classes(alloc: Global, names: &mut Names, classes: &[(&str, u64)]) -> Re
 }
 
 // Names of native functions get the objects from this number on as their values.
-#[tactic(auto, unfolding(crate::specs::Start::with_all, crate::specs::Start::numbered))]
 fn name_natives(
     alloc: Global,
     names: &mut Names,
@@ -119,13 +117,21 @@ fn make_natives(alloc: Global, heap: &mut Heap, natives: &[&str]) -> Result<(), 
     }
 }
 
+// The names of classes and of native functions.
+fn names_of(alloc: Global, classes: &[(&str, u64)], natives: &[&str]) -> Result<Names, AllocError>
+    requires { 38 + length natives.now < 2 ^ 63 }
+    ensures { IfOk result (λ names. names ≡ spec.with_all (spec.with_all [] (map (λ c. (c.0.now, value.Obj c.1)) classes.now)) (spec.numbered 38 (map (λ n. n.now) natives.now))) }
+{
+    let mut names = Names::new(alloc);
+    name_classes(alloc, &mut names, classes)?;
+    name_natives(alloc, &mut names, 38, natives)?;
+    Ok(names)
+}
+
 fn built_in_names(alloc: Global) -> Result<Names, AllocError>
     ensures { IfOk result (λ names. names ≡ spec.built_in_names) }
 {
-    let mut names = Names::new(alloc);
-    name_classes(alloc, &mut names, &CLASS_NAMES)?;
-    name_natives(alloc, &mut names, 38, &NATIVE_FUNCTIONS)?;
-    Ok(names)
+    names_of(alloc, &CLASS_NAMES, &NATIVE_FUNCTIONS)
 }
 
 fn module_names(alloc: Global) -> Result<Names, AllocError>

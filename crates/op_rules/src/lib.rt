@@ -2,8 +2,8 @@
 #![tactic(auto)]
 
 mod arithmetic;
+mod asking;
 mod binding;
-mod built_ins;
 mod callees;
 mod changes;
 mod family;
@@ -13,8 +13,8 @@ mod kinds;
 mod laws;
 
 pub use arithmetic::{Computed, compute, compute_one};
+pub use asking::{ask, asks_in, asks_iterator, built_in};
 pub use binding::{Bound, Named};
-pub use built_ins::{ask, asks_in, asks_iterator, built_in};
 pub use callees::{Method, Route};
 pub use changes::{bind_in, unbind_in};
 pub use family::Family;

@@ -12,7 +12,7 @@ use Rattle.py_scopes.specs.declared.survey.Survey.{Survey}
 use Rattle.py_scopes.specs.Survey.{site}
 use Rattle.py_scopes.specs.Resolve.{scopes_of}
 use Rattle.py_scopes.specs.Nested.{Nest}
-use Rattle.py_scopes.specs.Rules.{Kind, KeepsAll, fault}
+use Rattle.py_scopes.specs.Rules.{Kind, Breaks, fault}
 use Rattle.py_scopes.specs.Rules as rules
 use Rattle.py_meaning.specs.Syntax as syntax
 use Rattle.py_meaning.specs.Resolved.{Made, Making, pure, and_then, made, header}
@@ -28,10 +28,15 @@ pub record IsCoded (c : Roster) (first : ℕ) (scopes : List Scope) (n : ℕ) : 
   pub made : IsCode c (first + n) (role_in scopes n)
   pub frees : c.frees (first + n) ≡ length (free_names scopes n)
 
--- a script that keeps the static rules, with what is known of its codes, of which the first has this number
+-- each kind but that of names without a home, which codes look up as any name
+abbrev pub IsOther : Kind → Type 0
+IsOther rules.Name = ⊥
+IsOther kind = Unit {0}
+
+-- a script that keeps the other static rules, with what is known of its codes, of which the first has this number
 pub record Case : Type 0 where
   pub survey : Survey
-  pub keeps : KeepsAll survey
+  pub keeps : (kind : Kind) → IsOther kind → Breaks kind survey → ⊥
   pub nests : Nest (scopes_of survey)
   pub roster : Roster
   pub first : ℕ
@@ -199,8 +204,8 @@ pub record IsSite (z : Case) (x : Site) : Type 0 where
   pub after : List Site
   pub cut : z.survey.sites ≡ before ++ x ∷ after
 
-pub no_fault : (z : Case) (kind : Kind) (x : Site) (i : IsSite z x) → fault kind z.survey i.before x ≡ false
-no_fault z kind x i = false_from_ne_true _ (λ e. z.keeps kind (record { before = i.before; site = x; after = i.after; cut = i.cut; here = e }))
+pub no_fault : (z : Case) (kind : Kind) → IsOther kind → (x : Site) (i : IsSite z x) → fault kind z.survey i.before x ≡ false
+no_fault z kind other x i = false_from_ne_true _ (λ e. z.keeps kind other (record { before = i.before; site = x; after = i.after; cut = i.cut; here = e }))
 
 pub at_site : (z : Case) {k : ℕ} {facts : Type 0} (line : ℕ) (w : What) (place : Place) → Stands z k facts (IsSite z (record { place = place; line = line; what = w })) (site line w place)
 unfolding site
@@ -218,7 +223,7 @@ refused_behind z {k} {facts} {f = f} {g = g} line place a b = record {
   adds = λ s p. a s (site_adds z line what.Misplaced place (f s) (b (site line what.Misplaced place (f s)) p));
   here = λ e s l p.
       let x = at_site z {k = 0} {facts = facts} line what.Misplaced place in
-      no_false (no_fault z rules.Target _ (x.here e (f s) (omega arith) (b (site line what.Misplaced place (f s)) p)).1);
+      no_false (no_fault z rules.Target tt _ (x.here e (f s) (omega arith) (b (site line what.Misplaced place (f s)) p)).1);
 }
 
 pub refused : (z : Case) {k : ℕ} {facts : Type 0} {A : Type 0} {P : A → Type 0} {f : Survey → Survey} {m : Making A} (line : ℕ) (place : Place) → Adds z f → Does z k facts P (λ s. f (site line what.Misplaced place s)) m

@@ -111,7 +111,7 @@ at_yield z {k} place ps r line =
 pub at_break : (z : Case) {k : ℕ} {facts : Type 0} (place : Place) (line : ℕ) → Stands z k facts (IsTrue place.in_loop) (site line what.Break place)
 at_break z {k} {facts} place line =
     let a = at_site z {k = k} {facts = facts} line what.Break place in
-    record { adds = a.adds; here = λ e s l p. let h = a.here e s l p in (h.0, go place.in_loop (no_fault z rules.Loop _ h.1)) }
+    record { adds = a.adds; here = λ e s l p. let h = a.here e s l p in (h.0, go place.in_loop (no_fault z rules.Loop tt _ h.1)) }
   where
     go : (b : Bool) → (true && not b) ≡ false → IsTrue b
     go true e = refl
@@ -121,7 +121,7 @@ at_break z {k} {facts} place line =
 pub at_reraise : (z : Case) {k : ℕ} {facts : Type 0} (place : Place) (line : ℕ) → Stands z k facts (IsTrue place.in_except) (site line what.Reraise place)
 at_reraise z {k} {facts} place line =
     let a = at_site z {k = k} {facts = facts} line what.Reraise place in
-    record { adds = a.adds; here = λ e s l p. let h = a.here e s l p in (h.0, go place.in_except (no_fault z rules.Raise _ h.1)) }
+    record { adds = a.adds; here = λ e s l p. let h = a.here e s l p in (h.0, go place.in_except (no_fault z rules.Raise tt _ h.1)) }
   where
     go : (b : Bool) → (true && not b) ≡ false → IsTrue b
     go true e = refl
@@ -159,4 +159,4 @@ no_yield z t f = false_from_ne_true (somewhere is_yield t z.survey.sites) (λ h.
     let both = and_parts (x.place.scope == t) (is_yield x.what) c.4 in
     let outside : leaves_none x.what (kind_of (slice_get z.survey.scopes x.place.scope)) ≡ true =
     yields_none x.what _ both.1 (subst (λ k. is_function (kind_of (slice_get z.survey.scopes k)) ≡ false) (sym (eqb-true x.place.scope t both.0)) f) in
-    no_false (sym outside ∙ no_fault z rules.Function x (record { before = c.0; after = c.2; cut = c.3 })))
+    no_false (sym outside ∙ no_fault z rules.Function tt x (record { before = c.0; after = c.2; cut = c.3 })))

@@ -147,8 +147,8 @@ module _ (s : Survey) (keeps : KeepsAll s) (nests : Nest (scopes_of s)) (built_i
         (slice_get-map (λ x. header (Some x) []) (before ++ scopes_of s) (first + n) ∙ ap (option_map (λ x. header (Some x) [])) (got_behind before (scopes_of s) n (first + n) (omega (arith, so_many)) ∙ x.1))
         (ap (role_in (scopes_of s)) back) (ap (λ k. length (free_names (scopes_of s) k)) back)
 
-    pub shapes : AllFit (record { survey = s; keeps = keeps; nests = nests; roster = by_scopes before; first = first; coded = coded_so }) xs
-    shapes = all_fit (record { survey = s; keeps = keeps; nests = nests; roster = by_scopes before; first = first; coded = coded_so }) built_in xs same
+    pub shapes : AllFit (record { survey = s; keeps = λ kind other. keeps kind; nests = nests; roster = by_scopes before; first = first; coded = coded_so }) xs
+    shapes = all_fit (record { survey = s; keeps = λ kind other. keeps kind; nests = nests; roster = by_scopes before; first = first; coded = coded_so }) built_in xs same
 
     abbrev its_codes : List syntax.Code
     its_codes = codes_for (scopes_of s) first xs
@@ -160,4 +160,4 @@ module _ (s : Survey) (keeps : KeepsAll s) (nests : Nest (scopes_of s)) (built_i
         let x = some_at its_codes n (omega (arith, l, shapes.count)) in
         let is = h n x.0 x.1 in
         coded_at c first (scopes_of s) n (first + n) (x.0).header refl is.0 (role n l)
-        (is.1 ∙ (code_at (record { survey = s; keeps = keeps; nests = nests; roster = by_scopes before; first = first; coded = coded_so }) 0 n its_codes shapes.codes n x.0 (omega arith) x.1).frees)
+        (is.1 ∙ (code_at (record { survey = s; keeps = λ kind other. keeps kind; nests = nests; roster = by_scopes before; first = first; coded = coded_so }) 0 n its_codes shapes.codes n x.0 (omega arith) x.1).frees)

@@ -35,7 +35,7 @@ module _ (s : Survey) (keeps : KeepsAll s) (nests : Nest (scopes_of s)) (built_i
   abbrev its_case : Case
   its_case = record {
     survey = s;
-    keeps = keeps;
+    keeps = λ kind other. keeps kind;
     nests = nests;
     roster = its_roster;
     first = 0;
@@ -106,7 +106,7 @@ module _ (s t : Survey) (keeps : KeepsAll s) (keeps_too : KeepsAll t) (nests : N
   abbrev case : Case
   case = record {
     survey = s;
-    keeps = keeps;
+    keeps = λ kind other. keeps kind;
     nests = nests;
     roster = roster;
     first = 0;
@@ -118,7 +118,7 @@ module _ (s t : Survey) (keeps : KeepsAll s) (keeps_too : KeepsAll t) (nests : N
   abbrev case_too : Case
   case_too = record {
     survey = t;
-    keeps = keeps_too;
+    keeps = λ kind other. keeps_too kind;
     nests = nests_too;
     roster = roster;
     first = behind;

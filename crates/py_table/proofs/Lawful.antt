@@ -133,7 +133,7 @@ changed_generator (Fit pairs) (object.Dict old) = tt
 changed_generator k (object.Generator code state given cells) = refl
 changed_generator k o = tt
 
-changed_keywords : (k : Change) (o : Object) → KeepsTexts k → are_keywords (Some o) ≡ true → are_keywords (Some (changed_by k o)) ≡ true
+changed_keywords : (k : Change) (o : Object) → KeepsTexts k (Some o) → are_keywords (Some o) ≡ true → are_keywords (Some (changed_by k o)) ≡ true
 changed_keywords (Fill items) (object.List old) p e = e
 changed_keywords (Bind name v) (object.Space names) p e = e
 changed_keywords (Bind name v) (object.Instance class fields) p e = e
@@ -147,7 +147,7 @@ changed_keywords (Hold v) (object.Cell old) p e = e
 changed_keywords (Move place size) (object.Iterator over old older over_now) p e = e
 changed_keywords Finish (object.Iterator over place size over_now) p e = e
 changed_keywords (Put key given v) (object.Dict pairs) p e = texts_with pairs key given v p e
-changed_keywords (Fit pairs) (object.Dict old) p e = p
+changed_keywords (Fit pairs) (object.Dict old) p e = p e
 changed_keywords k o p e = e
 
 -- what stands where an object was changed, and by what
@@ -250,10 +250,10 @@ module _ (c : Roster) (w : World) (marks : ℕ → Mark) (l : WorldLaw c w marks
       (m.0, subst (λ k. BodyLaw c k x) (sym (l.law.ahead n (omega arith))) (new_body x m.2))
 
   -- a marked dict is changed by what keeps its keys texts
-  marked_texts : (i : ℕ) (k : Change) → marks i ≡ Keywords → IsOpen marks (value.Obj i) ⊎ KeepsTexts k → KeepsTexts k
-  marked_texts i k e p = elim p [ inl q ↦ let f : Open ≡ Keywords = sym q ∙ e in absurd (cc) | inr q ↦ q ]
+  marked_texts : (i : ℕ) (k : Change) (o : Option Object) → marks i ≡ Keywords → IsOpen marks (value.Obj i) ⊎ KeepsTexts k o → KeepsTexts k o
+  marked_texts i k o e p = elim p [ inl q ↦ let f : Open ≡ Keywords = sym q ∙ e in absurd (cc) | inr q ↦ q ]
 
-  put_keywords : (i : ℕ) (k : Change) (o : Option Object) → slice_get w.heap i ≡ o → IsOpen marks (value.Obj i) ⊎ KeepsTexts k → (n : ℕ) → marks n ≡ Keywords → are_keywords (slice_get (put_at w.heap i k o) n) ≡ true
+  put_keywords : (i : ℕ) (k : Change) (o : Option Object) → slice_get w.heap i ≡ o → IsOpen marks (value.Obj i) ⊎ KeepsTexts k o → (n : ℕ) → marks n ≡ Keywords → are_keywords (slice_get (put_at w.heap i k o) n) ≡ true
   put_keywords i k None e p n m = l.law.keywords n m
   put_keywords i k (Some o) e p n m =
       elim (cases_eq n i) [
@@ -261,7 +261,7 @@ module _ (c : Roster) (w : World) (marks : ℕ → Mark) (l : WorldLaw c w marks
             let m' : marks i ≡ Keywords = ap marks (sym is) ∙ m in
             let a : are_keywords (Some o) ≡ true = ap are_keywords (sym e) ∙ l.law.keywords i m' in
             subst (λ j. are_keywords (slice_get (slice_set w.heap i (changed_by k o)) j) ≡ true) (sym is)
-            (ap are_keywords (set_same w.heap i (changed_by k o) (slice_get_within w.heap i o e)) ∙ changed_keywords k o (marked_texts i k m' p) a)
+            (ap are_keywords (set_same w.heap i (changed_by k o) (slice_get_within w.heap i o e)) ∙ changed_keywords k o (marked_texts i k (Some o) m' p) a)
         | inr apart ↦ ap are_keywords (set_other w.heap i (changed_by k o) n apart) ∙ l.law.keywords n m
       ]
 

@@ -5,18 +5,18 @@ use Rattle.py_ast.specs.declared.expr.Binary.{Binary}
 use Rattle.py_ast.specs.declared.expr.Expr.{Expr}
 use Rattle.op_forms.specs.declared.op.Op.{Op}
 use Rattle.node_tree.specs.declared.node.Node.{Node}
-use Rattle.node_tree.specs.declared.node.Operand.{Operand}
+use Rattle.code_forms.specs.declared.operand.Operand.{Operand}
 use Rattle.node_tree.specs.Tree.{block}
 use Rattle.node_tree.proofs.Direct.{block_append}
 use Rattle.py_meaning.specs.Syntax as syntax
 use Rattle.py_meaning.specs.Resolved as meaning
-use Rattle.nu_carries.specs.Frames.{Homes, behind}
-use Rattle.nu_carries.specs.Carries.{CarriesExpression, CarriesTarget, CarriesStatement}
+use Rattle.carries_base.specs.Frames.{Homes, behind}
+use Rattle.carries_base.specs.Carries.{CarriesExpression, CarriesTarget, CarriesStatement}
 use Rattle.reform_base.specs.declared.Part.{Part}
 use Rattle.reform_unpack.specs.declared.place.Place.{Place}
 use Rattle.reform_unpack.specs.Places.{target_of}
 use Rattle.reform_unpack.specs.Laws.{CarriesTargets}
-use Rattle.nu_carries.proofs.Sequence.{gives_carried}
+use Rattle.carries_base.proofs.Sequence.{gives_carried}
 use Rattle.reform_unpack.proofs.Assignments.{target_carried, assignment_carried}
 use Rattle.reform_all.specs.Built as built
 use Rattle.reform_all.specs.Quiet.{Quiet}

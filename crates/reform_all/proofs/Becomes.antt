@@ -10,10 +10,10 @@ use Rattle.node_tree.proofs.Direct.{append_stop}
 use Rattle.py_scopes.specs.Parts.{branch_of}
 use Rattle.py_meaning.specs.Syntax as syntax
 use Rattle.py_meaning.specs.Resolved as meaning
-use Rattle.nu_carries.specs.Frames.{Homes, behind}
-use Rattle.nu_carries.specs.Carries.{CarriesExpression, CarriesStatement, CarriesBlock}
-use Rattle.nu_carries.specs.Laws.{Within}
-use Rattle.nu_carries.proofs.Statements.{done_carried, pass_carried, evaluate_carried, leave_carried}
+use Rattle.carries_base.specs.Frames.{Homes, behind}
+use Rattle.carries_base.specs.Carries.{CarriesExpression, CarriesStatement, CarriesBlock}
+use Rattle.carries_base.specs.Laws.{Within}
+use Rattle.carries_base.proofs.Statements.{done_carried, pass_carried, evaluate_carried, leave_carried}
 use Rattle.reform_base.specs.declared.Part.{Part}
 use Rattle.reform_all.specs.declared.choices.Choice.{Choice}
 use Rattle.reform_all.specs.Built as built

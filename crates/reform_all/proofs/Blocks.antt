@@ -1,17 +1,17 @@
 -- Blocks that carry statements carry them within more temporaries too, and as a block of one statement.
 use Rattle.std.proofs.Common.{◌≡◌, ℕ, ◌≤◌, List, [], ◌∷◌, ◌++◌, Option, refl, sym, ap, subst, arith}
 use Rattle.node_tree.specs.declared.node.Node.{Node}
-use Rattle.node_tree.specs.declared.node.Operand.{Operand}
-use Rattle.node_tree.specs.declared.node.Operand.TheVariants as operand
+use Rattle.code_forms.specs.declared.operand.Operand.{Operand}
+use Rattle.code_forms.specs.declared.operand.Operand.TheVariants as operand
 use Rattle.node_tree.specs.Blocks as tree
 use Rattle.node_tree.specs.Tree.{block}
 use Rattle.node_tree.proofs.Direct.{block_append, append_stop}
 use Rattle.py_meaning.specs.Syntax as syntax
 use Rattle.py_meaning.specs.Frames as python
-use Rattle.nu_carries.specs.Frames.{Homes, behind, IsWithin}
-use Rattle.nu_carries.specs.Carries.{CarriesRow, CarriesExpression, CarriesStatement, CarriesBlock}
-use Rattle.nu_carries.proofs.Facts.{outside_less}
-use Rattle.nu_carries.proofs.Statements.{done_carried, block_carried}
+use Rattle.carries_base.specs.Frames.{Homes, behind, IsWithin}
+use Rattle.carries_base.specs.Carries.{CarriesRow, CarriesExpression, CarriesStatement, CarriesBlock}
+use Rattle.carries_base.proofs.Facts.{outside_less}
+use Rattle.carries_base.proofs.Statements.{done_carried, block_carried}
 
 within_more : (low mid high : ℕ) (o : Operand) → mid ≤ high → IsWithin low mid o → IsWithin low high o
 within_more low mid high (operand.Temp t) le w = let a = w.1 in (w.0, omega arith)

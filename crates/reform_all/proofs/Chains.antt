@@ -3,9 +3,9 @@ use Rattle.std.proofs.Common.{◌≡◌, ℕ, ◌≤◌, List, [], ◌∷◌, �
 use Rattle.node_tree.specs.declared.node.Node.{Node}
 use Rattle.node_tree.specs.Tree.{block}
 use Rattle.py_meaning.specs.Syntax as syntax
-use Rattle.nu_carries.specs.Frames.{Homes, behind}
-use Rattle.nu_carries.specs.Carries.{CarriesExpression, CarriesStatement, CarriesBlock}
-use Rattle.nu_carries.specs.Laws.{Within}
+use Rattle.carries_base.specs.Frames.{Homes, behind}
+use Rattle.carries_base.specs.Carries.{CarriesExpression, CarriesStatement, CarriesBlock}
+use Rattle.carries_base.specs.Laws.{Within}
 use Rattle.reform_all.specs.declared.choices.Choice.{Choice}
 use Rattle.reform_all.specs.Choices.{Arm, chain, CarriesArm, CarriesArms, CarriesChain, Chained}
 use Rattle.reform_all.specs.Quiet.{Quiet, AllQuiet}

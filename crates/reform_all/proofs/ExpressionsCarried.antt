@@ -20,20 +20,20 @@ use Rattle.py_ast.specs.declared.expr.Link.{Link}
 use Rattle.py_ast.specs.declared.expr.Unary.{Unary}
 use Rattle.py_ast.specs.declared.expr.Unary.TheVariants as unary
 use Rattle.py_scopes.specs.Parts.{argument_of, link_of}
-use Rattle.node_tree.specs.declared.node.Argument.{Argument}
-use Rattle.node_tree.specs.declared.node.Argument.TheVariants as tree_argument
+use Rattle.code_forms.specs.declared.operand.Argument.{Argument}
+use Rattle.code_forms.specs.declared.operand.Argument.TheVariants as tree_argument
 use Rattle.node_tree.specs.Contents.{total, form_operations, form_yields, yields}
-use Rattle.node_tree.specs.declared.node.Operand.{Operand}
-use Rattle.node_tree.specs.declared.node.Operand.TheVariants as operand
+use Rattle.code_forms.specs.declared.operand.Operand.{Operand}
+use Rattle.code_forms.specs.declared.operand.Operand.TheVariants as operand
 use Rattle.node_tree.specs.Blocks as tree
 use Rattle.node_tree.specs.Tree.{block}
 use Rattle.py_meaning.specs.Syntax as syntax
 use Rattle.py_meaning.specs.Resolved as meaning
 use Rattle.py_meaning.specs.Resolved.{Context, Made, Making, pure, made, and_then}
-use Rattle.nu_carries.specs.Frames.{Homes, behind, IsWithin}
-use Rattle.nu_carries.specs.Carries.{CarriesExpression}
-use Rattle.nu_carries.proofs.Facts.{outside_less}
-use Rattle.nu_carries.proofs.Small.{constant_carried}
+use Rattle.carries_base.specs.Frames.{Homes, behind, IsWithin}
+use Rattle.carries_base.specs.Carries.{CarriesExpression}
+use Rattle.carries_base.proofs.Facts.{outside_less}
+use Rattle.carries_base.proofs.Small.{constant_carried}
 use Rattle.reform_base.specs.declared.Part.{Part}
 use Rattle.reform_expr.specs.Arguments.{arguments}
 use Rattle.reform_expr.specs.Parts.{Range, CarriesEach, totals}
@@ -41,7 +41,8 @@ use Rattle.reform_all.specs.declared.ending.ReformEnd.{ReformEnd}
 use Rattle.reform_all.specs.declared.ending.ReformEnd.TheVariants as end
 use Rattle.reform_all.specs.Built as built
 use Rattle.reform_all.specs.Expressions.{InModule, Is, IsExpressed, Does, Fails, Expressed, names_print}
-use Rattle.reform_all.specs.Taken.{is_taken, refused}
+use Rattle.code_forms.specs.Taking.{is_taken}
+use Rattle.reform_all.specs.Taken.{refused}
 
 -- What is made without a scope
 

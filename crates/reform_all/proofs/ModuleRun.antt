@@ -18,11 +18,11 @@ use Rattle.py_meaning.specs.Syntax as syntax
 use Rattle.py_meaning.specs.Resolved as meaning
 use Rattle.py_meaning.specs.Scopes.{local_names, own_names, free_names, parameter_of}
 use Rattle.py_meaning.specs.Script.{py_run, all_codes}
-use Rattle.nu_carries.specs.Frames.{Homes, begun}
-use Rattle.nu_carries.specs.Carries.{Setting, BegunAs, Correspond, BodyEnds, CarriesBlock, CarriesCode, CarriesScript}
-use Rattle.nu_carries.proofs.Carry.{none_by}
-use Rattle.nu_carries.proofs.Codes.{plain_carried}
-use Rattle.nu_carries.proofs.Scripts.{script_same}
+use Rattle.carries_base.specs.Frames.{Homes, begun}
+use Rattle.carries_base.specs.Carries.{Setting, BegunAs, Correspond, BodyEnds, CarriesBlock, CarriesCode, CarriesScript}
+use Rattle.carries_base.proofs.Carry.{none_by}
+use Rattle.carries_base.proofs.Codes.{plain_carried}
+use Rattle.carries_base.proofs.Scripts.{script_same}
 use Rattle.reform_all.specs.Expressions.{Is}
 use Rattle.reform_all.specs.Module.{IsModule, module_code, module_script}
 use Rattle.reform_all.specs.Scripts.{module_header}

@@ -3,10 +3,10 @@ use Rattle.std.proofs.Common.{◌≡◌, ℕ, ◌+◌, Bool, true, not, if◌the
 use Rattle.py_ast.specs.declared.expr.Binary.{Binary}
 use Rattle.py_ast.specs.declared.expr.Binary.TheVariants as binary
 use Rattle.op_forms.specs.declared.op.Op.{Op}
-use Rattle.node_tree.specs.declared.node.Argument.{Argument}
-use Rattle.node_tree.specs.declared.node.Argument.TheVariants as argument
+use Rattle.code_forms.specs.declared.operand.Argument.{Argument}
+use Rattle.code_forms.specs.declared.operand.Argument.TheVariants as argument
 use Rattle.node_tree.specs.declared.node.Node.{Node}
-use Rattle.node_tree.specs.declared.node.Operand.{Operand}
+use Rattle.code_forms.specs.declared.operand.Operand.{Operand}
 use Rattle.node_tree.specs.Blocks as tree
 use Rattle.node_tree.specs.Contents.{total, form_operations, operations, form_yields, yields}
 use Rattle.node_tree.specs.Tree.{block}
@@ -18,7 +18,7 @@ use Rattle.reform_unpack.specs.declared.place.Place.{Place}
 use Rattle.reform_unpack.specs.declared.place.Place.TheVariants as place
 use Rattle.reform_unpack.specs.Places.{reads, stores}
 use Rattle.reform_all.specs.Quiet.{Quiet}
-use Rattle.reform_all.specs.Taken.{is_taken}
+use Rattle.code_forms.specs.Taking.{is_taken}
 
 -- what counts as refused
 abbrev pub refuses : Op → List Argument → Bool

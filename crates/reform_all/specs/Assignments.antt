@@ -3,13 +3,13 @@ use Rattle.std.specs.Prelude.{◌≡◌, ℕ, ◌≤◌, List, map, Option, None
 use Rattle.py_ast.specs.declared.expr.Binary.{Binary}
 use Rattle.py_ast.specs.declared.expr.Expr.{Expr}
 use Rattle.node_tree.specs.declared.node.Node.{Node}
-use Rattle.node_tree.specs.declared.node.Operand.{Operand}
+use Rattle.code_forms.specs.declared.operand.Operand.{Operand}
 use Rattle.node_tree.specs.Tree as tree
 use Rattle.py_meaning.specs.Syntax as syntax
 use Rattle.py_meaning.specs.Resolved as meaning
 use Rattle.py_meaning.specs.Resolved.{Context}
-use Rattle.nu_carries.specs.Frames.{Homes, behind}
-use Rattle.nu_carries.specs.Carries.{CarriesStatement}
+use Rattle.carries_base.specs.Frames.{Homes, behind}
+use Rattle.carries_base.specs.Carries.{CarriesStatement}
 use Rattle.reform_unpack.specs.declared.place.Place.{Place}
 use Rattle.reform_unpack.specs.Places.{target_of}
 use Rattle.reform_unpack.specs.Laws.{CarriesTargets}

@@ -4,8 +4,8 @@ use Rattle.node_tree.specs.declared.node.Node.{Node}
 use Rattle.node_tree.specs.Tree as tree
 use Rattle.py_meaning.specs.Syntax as syntax
 use Rattle.py_meaning.specs.Resolved.{alone}
-use Rattle.nu_carries.specs.Frames.{Homes, behind}
-use Rattle.nu_carries.specs.Carries.{CarriesExpression, CarriesStatement, CarriesBlock}
+use Rattle.carries_base.specs.Frames.{Homes, behind}
+use Rattle.carries_base.specs.Carries.{CarriesExpression, CarriesStatement, CarriesBlock}
 use Rattle.reform_all.specs.declared.choices.Choice.{Choice}
 
 -- a branch, as it is executed

@@ -8,8 +8,8 @@ use Rattle.node_tree.specs.Tree.{block}
 use Rattle.py_meaning.specs.Syntax as syntax
 use Rattle.py_meaning.specs.Resolved as meaning
 use Rattle.py_meaning.specs.Resolved.{Context, Making, pure, home_in}
-use Rattle.nu_carries.specs.Frames.{Homes, behind}
-use Rattle.nu_carries.specs.Carries.{CarriesExpression}
+use Rattle.carries_base.specs.Frames.{Homes, behind}
+use Rattle.carries_base.specs.Carries.{CarriesExpression}
 use Rattle.reform_base.specs.declared.Part.{Part}
 use Rattle.reform_expr.specs.Parts.{Range, CarriesEach, totals}
 use Rattle.reform_all.specs.declared.ending.ReformEnd.{ReformEnd}

@@ -19,7 +19,7 @@ pub record IsModule (scopes : List Scope) : Type 0 where
 
 -- the code of the module with these nodes
 abbrev pub module_code : List Node → NodeCode
-module_code body = record { scope = codes "<module>"; params = []; generator = false; free = 0; line = 1; body = body }
+module_code body = record { header = record { scope = codes "<module>"; params = []; generator = false; line = 1 }; free = 0; body = body }
 
 -- that alone
 abbrev pub module_script : List ℕ → List Node → NodeScript

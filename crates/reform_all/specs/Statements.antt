@@ -9,8 +9,8 @@ use Rattle.node_tree.specs.Contents as contents
 use Rattle.py_meaning.specs.Syntax as syntax
 use Rattle.py_meaning.specs.Resolved as meaning
 use Rattle.py_meaning.specs.Resolved.{Context}
-use Rattle.nu_carries.specs.Frames.{Homes, behind}
-use Rattle.nu_carries.specs.Carries.{CarriesBlock}
+use Rattle.carries_base.specs.Frames.{Homes, behind}
+use Rattle.carries_base.specs.Carries.{CarriesBlock}
 use Rattle.reform_all.specs.declared.ending.ReformEnd.{ReformEnd}
 use Rattle.reform_all.specs.declared.choices.Choice.{Choice}
 use Rattle.reform_all.specs.Assignments.{Answers}

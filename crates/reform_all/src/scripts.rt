@@ -11,7 +11,7 @@ use crate::ending::ReformEnd;
 use crate::statements::statements;
 use node_tree::{Block, NodeCode, NodeScript, Temps};
 use nu_text::RcStr;
-use nu_value::Shape;
+use nu_value::{Header, Shape};
 use py_ast::Scoped;
 use sqlite_items::Items;
 use std::alloc::{AllocError, Global};
@@ -21,11 +21,13 @@ fn module(alloc: Global, body: Block) -> Result<NodeCode, AllocError>
     ensures { IfOk result (λ code. code ≡ module_code body) }
 {
     Ok(NodeCode {
-        scope: RcStr::from_str(alloc, "<module>")?,
-        params: Shape::new(alloc),
-        generator: false,
+        header: Header {
+            scope: RcStr::from_str(alloc, "<module>")?,
+            params: Shape::new(alloc),
+            generator: false,
+            line: 1,
+        },
         free: 0,
-        line: 1,
         body,
     })
 }

@@ -2,7 +2,7 @@
 #![tactic(auto)]
 
 ghost use Rattle.std.specs.Prelude.{◌≡◌, [], ◌∷◌, ◌++◌, IfOk};
-ghost use Rattle.node_tree.specs.declared.node.Argument.TheVariants as argument;
+ghost use Rattle.code_forms.specs.declared.operand.Argument.TheVariants as argument;
 
 use node_tree::{Argument, Block, Node, Operand};
 use sqlite_items::Items;

@@ -3,12 +3,12 @@ use Rattle.std.proofs.Common.{◌≡◌, ℕ, suc, ◌+◌, length, map, List, [
 use Rattle.std.specs.Prelude.{slice_get}
 use Rattle.op_forms.specs.declared.signature.ArgumentKind.{ArgumentKind}
 use Rattle.node_tree.specs.declared.node.Node.{Node}
-use Rattle.node_tree.specs.declared.node.Argument.TheVariants as argument
+use Rattle.code_forms.specs.declared.operand.Argument.TheVariants as argument
 use Rattle.node_tree.specs.Blocks as tree
 use Rattle.node_tree.specs.Contents.{form_total, total}
 use Rattle.node_tree.specs.Tree.{form, block}
 use Rattle.node_tree.proofs.Direct.{block_append, total_append}
-use Rattle.nu_carries.specs.Carries.{joined}
+use Rattle.carries_base.specs.Carries.{joined}
 use Rattle.reform_base.specs.declared.Part.{Part}
 use Rattle.reform_expr.specs.Parts.{carrier, blocks, totals}
 use Rattle.reform_expr.specs.Arguments.{is_name, argument_of, given}

@@ -1,20 +1,20 @@
 -- Expressions without operands.
 use Rattle.std.proofs.Common.{ℕ, ◌+◌, ◌≤◌, List, [], ◌∷◌, refl, arith}
 use Rattle.op_forms.specs.declared.op.Op.TheVariants as op
-use Rattle.node_tree.specs.declared.node.Argument.TheVariants as argument
-use Rattle.node_tree.specs.declared.node.Operand.TheVariants as operand
+use Rattle.code_forms.specs.declared.operand.Argument.TheVariants as argument
+use Rattle.code_forms.specs.declared.operand.Operand.TheVariants as operand
 use Rattle.node_tree.specs.Blocks.{alone}
 use Rattle.node_tree.specs.Blocks as tree
 use Rattle.py_meaning.specs.Syntax as syntax
 use Rattle.py_meaning.specs.Frames as python
-use Rattle.nu_carries.specs.Frames.{Homes, behind, Holds}
-use Rattle.nu_carries.specs.Carries.{CarriesExpression}
+use Rattle.carries_base.specs.Frames.{Homes, behind, Holds}
+use Rattle.carries_base.specs.Carries.{CarriesExpression}
 use Rattle.reform_expr.specs.declared.home.Home.{Home}
 use Rattle.reform_expr.specs.declared.home.Home.TheVariants as home
 use Rattle.reform_expr.specs.Homes.{home_of, reads}
-use Rattle.nu_carries.proofs.Facts.{outside_off}
-use Rattle.nu_carries.proofs.Sequence.{one_carried}
-use Rattle.nu_carries.proofs.Operations.{operate_carried}
+use Rattle.carries_base.proofs.Facts.{outside_off}
+use Rattle.carries_base.proofs.Sequence.{one_carried}
+use Rattle.carries_base.proofs.Operations.{operate_carried}
 
 -- a name of the module that is read
 pub module_carried : (h : Homes) (low to line : ℕ) (name : List ℕ) → behind h ≤ low → low ≤ to → CarriesExpression h low (to + 1) (syntax.Name line (syntax.Module name)) (alone (tree.Do to line op.Global (argument.Name name ∷ []))) (operand.Temp to)

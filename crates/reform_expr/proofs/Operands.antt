@@ -5,10 +5,10 @@ use Rattle.op_forms.specs.declared.constant.Const.TheVariants as const
 use Rattle.op_forms.specs.declared.op.Op.{Op}
 use Rattle.op_forms.specs.declared.op.Op.TheVariants as op
 use Rattle.op_forms.specs.declared.signature.ArgumentKind.{ArgumentKind}
-use Rattle.node_tree.specs.declared.node.Argument.{Argument}
-use Rattle.node_tree.specs.declared.node.Argument.TheVariants as argument
-use Rattle.node_tree.specs.declared.node.Operand.{Operand}
-use Rattle.node_tree.specs.declared.node.Operand.TheVariants as operand
+use Rattle.code_forms.specs.declared.operand.Argument.{Argument}
+use Rattle.code_forms.specs.declared.operand.Argument.TheVariants as argument
+use Rattle.code_forms.specs.declared.operand.Operand.{Operand}
+use Rattle.code_forms.specs.declared.operand.Operand.TheVariants as operand
 use Rattle.node_tree.specs.declared.node.Node.{Do, Call}
 use Rattle.node_tree.specs.Blocks.{alone}
 use Rattle.node_tree.specs.Blocks as tree
@@ -18,12 +18,12 @@ use Rattle.py_meaning.specs.Syntax as syntax
 use Rattle.py_meaning.specs.Frames as python
 use Rattle.py_meaning.specs.Expressions.{each}
 use Rattle.nu_calls.specs.Calls.{operate}
-use Rattle.nu_carries.specs.Frames.{Homes, behind, Holds, Facts, Fits, IsWithin, IsOff, Outside}
-use Rattle.nu_carries.specs.Carries.{Setting, source, target, Carried, CarriesExpression, CarriesAll, joined}
-use Rattle.nu_carries.proofs.Facts.{Off, outside_off, outside_less, forget}
-use Rattle.nu_carries.proofs.Sequence.{weaken, more_leaves, seq_carried, one_carried}
-use Rattle.nu_carries.proofs.Operations.{operate_carried}
-use Rattle.nu_carries.proofs.Small.{within_off}
+use Rattle.carries_base.specs.Frames.{Homes, behind, Holds, Facts, Fits, IsWithin, IsOff, Outside}
+use Rattle.carries_base.specs.Carries.{Setting, source, target, Carried, CarriesExpression, CarriesAll, joined}
+use Rattle.carries_base.proofs.Facts.{Off, outside_off, outside_less, forget}
+use Rattle.carries_base.proofs.Sequence.{weaken, more_leaves, seq_carried, one_carried}
+use Rattle.carries_base.proofs.Operations.{operate_carried}
+use Rattle.carries_base.proofs.Small.{within_off}
 use Rattle.reform_base.specs.declared.Part.{Part}
 use Rattle.reform_expr.specs.Parts.{Range, Apart, ApartFrom, CarriesEach, carrier, blocks}
 use Rattle.reform_expr.specs.Arguments.{is_name, argument_of, given, arguments}
@@ -94,7 +94,7 @@ held_before (p ∷ ps) (v ∷ vs) fs c g x = (held_before ps vs (Holds p.value v
 -- what their operands hold
 abbrev pub values_in : nodes.Frame → List Part → Option (List Value)
 values_in g [] = Some []
-values_in g (p ∷ ps) = nodes.both (nodes.held g p.value) (values_in g ps)
+values_in g (p ∷ ps) = nodes.both (nodes.operand_value g p.value) (values_in g ps)
 
 values_held : (ps : List Part) (vs : List Value) (fs : Facts) (c : Value) (g : nodes.Frame) → length vs ≡ length ps → Fits (held ps vs fs) c g → values_in g ps ≡ Some vs
 values_held [] [] fs c g e x = refl
@@ -143,7 +143,7 @@ operated h low high line o xs ps rs args x same is c =
           (λ c g y. same g ∙ values_held ps vs fs c g e y)))));
     }
 
-argument_same : (g : nodes.Frame) (named : Bool) (v : Operand) → nodes.argument_value g (argument_of named v) ≡ nodes.held g v
+argument_same : (g : nodes.Frame) (named : Bool) (v : Operand) → nodes.argument_value g (argument_of named v) ≡ nodes.operand_value g v
 argument_same g false v = refl
 argument_same g true (operand.Temp t) = refl
 argument_same g true (operand.Const const.None) = refl
@@ -154,17 +154,17 @@ argument_same g true (operand.Const (const.Str s)) = refl
 -- bare names are what their constants are
 pub given_same : (g : nodes.Frame) (kinds : List ArgumentKind) (ps : List Part) → nodes.values g (given kinds ps) ≡ values_in g ps
 given_same g kinds [] = refl
-given_same g [] (p ∷ ps) = ap (λ u. nodes.both (nodes.held g p.value) u) (given_same g [] ps)
+given_same g [] (p ∷ ps) = ap (λ u. nodes.both (nodes.operand_value g p.value) u) (given_same g [] ps)
 given_same g (k ∷ kinds) (p ∷ ps) =
     ap (λ u. nodes.both u (nodes.values g (given kinds ps))) (argument_same g (is_name (Some k)) p.value)
-    ∙ ap (λ u. nodes.both (nodes.held g p.value) u) (given_same g kinds ps)
+    ∙ ap (λ u. nodes.both (nodes.operand_value g p.value) u) (given_same g kinds ps)
 
 pub values_same : (g : nodes.Frame) (ps : List Part) → nodes.values g (map argument.Value (map (λ p. p.value) ps)) ≡ values_in g ps
 values_same g [] = refl
-values_same g (p ∷ ps) = ap (λ u. nodes.both (nodes.held g p.value) u) (values_same g ps)
+values_same g (p ∷ ps) = ap (λ u. nodes.both (nodes.operand_value g p.value) u) (values_same g ps)
 
 pub call_same : (g : nodes.Frame) (f : Part) (ps : List Part) → nodes.values g (argument.Value f.value ∷ map argument.Value (map (λ p. p.value) ps)) ≡ values_in g (f ∷ ps)
-call_same g f ps = ap (λ u. nodes.both (nodes.held g f.value) u) (values_same g ps)
+call_same g f ps = ap (λ u. nodes.both (nodes.operand_value g f.value) u) (values_same g ps)
 
 -- as code makes them
 pub operates : (h : Homes) (low high line : ℕ) (o : Op) (xs : syntax.Expressions) (ps : List Part) (rs : List Range) → CarriesEach h low high xs ps rs → CarriesExpression h low (high + 1) (syntax.Operation line o xs) (block (blocks ps ++ Do high line o (arguments o ps) ∷ [])) (operand.Temp high)

@@ -1,6 +1,6 @@
 -- The homes of names, as the meaning of scripts has them.
 use Rattle.std.specs.Prelude.{ℕ}
-use Rattle.node_tree.specs.declared.node.Argument.TheVariants as argument
+use Rattle.code_forms.specs.declared.operand.Argument.TheVariants as argument
 use Rattle.node_tree.specs.Blocks as tree
 use Rattle.op_forms.specs.declared.op.Op.TheVariants as op
 use Rattle.py_meaning.specs.Syntax as syntax

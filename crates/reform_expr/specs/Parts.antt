@@ -5,8 +5,8 @@ use Rattle.node_tree.specs.Blocks as tree
 use Rattle.node_tree.specs.Contents.{total}
 use Rattle.node_tree.specs.Tree.{block}
 use Rattle.py_meaning.specs.Syntax as syntax
-use Rattle.nu_carries.specs.Frames.{Homes, behind}
-use Rattle.nu_carries.specs.Carries.{Carrier, CarriesExpression, CarriesAll}
+use Rattle.carries_base.specs.Frames.{Homes, behind}
+use Rattle.carries_base.specs.Carries.{Carrier, CarriesExpression, CarriesAll}
 use Rattle.reform_base.specs.declared.Part.{Part}
 
 -- the temporaries from one to below another

@@ -4,11 +4,11 @@ ghost use Rattle.std.specs.Prelude.{◌≡◌, ℕ, ◌+◌, ◌≤◌, [], OnOk
 ghost use Rattle.op_forms.specs.Constants.{value_of};
 ghost use Rattle.node_tree.specs.Blocks as tree;
 ghost use Rattle.node_tree.specs.Contents.{total};
-ghost use Rattle.node_tree.specs.declared.node.Operand.TheVariants as operand;
+ghost use Rattle.code_forms.specs.declared.operand.Operand.TheVariants as operand;
 ghost use Rattle.node_tree.specs.Tree.{form, block};
 ghost use Rattle.py_meaning.specs.Syntax as syntax;
-ghost use Rattle.nu_carries.specs.Frames.{Homes, behind};
-ghost use Rattle.nu_carries.specs.Carries.{CarriesExpression};
+ghost use Rattle.carries_base.specs.Frames.{Homes, behind};
+ghost use Rattle.carries_base.specs.Carries.{CarriesExpression};
 ghost use Rattle.reform_expr.specs.Homes.{home_of, reads};
 
 use crate::home::Home;

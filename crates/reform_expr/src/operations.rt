@@ -5,11 +5,11 @@ ghost use Rattle.op_forms.specs.declared.op.Op.TheVariants as op_named;
 ghost use Rattle.op_forms.specs.Signature as signature;
 ghost use Rattle.node_tree.specs.Blocks as tree;
 ghost use Rattle.node_tree.specs.Contents.{total};
-ghost use Rattle.node_tree.specs.declared.node.Operand.TheVariants as operand;
+ghost use Rattle.code_forms.specs.declared.operand.Operand.TheVariants as operand;
 ghost use Rattle.node_tree.specs.Tree.{block};
 ghost use Rattle.py_meaning.specs.Syntax as syntax;
-ghost use Rattle.nu_carries.specs.Frames.{Homes};
-ghost use Rattle.nu_carries.specs.Carries.{CarriesExpression};
+ghost use Rattle.carries_base.specs.Frames.{Homes};
+ghost use Rattle.carries_base.specs.Carries.{CarriesExpression};
 ghost use Rattle.reform_expr.specs.Arguments.{is_name, argument_of, arguments};
 ghost use Rattle.reform_expr.specs.Parts.{Range, CarriesEach, blocks, totals};
 

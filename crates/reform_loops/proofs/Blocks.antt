@@ -2,17 +2,17 @@
 use Rattle.std.proofs.Common.{◌≡◌, ℕ, true, false, List, [], ◌∷◌, ◌++◌, refl, sym, ap, ◌∙◌, subst}
 use Rattle.op_forms.specs.declared.constant.Const.TheVariants as const
 use Rattle.op_forms.specs.declared.op.Op.TheVariants as op
-use Rattle.node_tree.specs.declared.node.Argument.{Argument}
-use Rattle.node_tree.specs.declared.node.Argument.TheVariants as argument
-use Rattle.node_tree.specs.declared.node.Operand.{Operand}
-use Rattle.node_tree.specs.declared.node.Operand.TheVariants as operand
+use Rattle.code_forms.specs.declared.operand.Argument.{Argument}
+use Rattle.code_forms.specs.declared.operand.Argument.TheVariants as argument
+use Rattle.code_forms.specs.declared.operand.Operand.{Operand}
+use Rattle.code_forms.specs.declared.operand.Operand.TheVariants as operand
 use Rattle.node_tree.specs.declared.node.Node.{Node, Constant, Do, If, Loop, Leave}
 use Rattle.node_tree.specs.Blocks.{alone}
 use Rattle.node_tree.specs.Blocks as tree
 use Rattle.node_tree.specs.Tree.{form, block}
 use Rattle.node_tree.proofs.Direct.{block_append}
 use Rattle.node_tree.proofs.Forms.{form_if, form_loop}
-use Rattle.nu_carries.specs.Laws.{if_block, turn_block, while_block}
+use Rattle.carries_base.specs.Laws.{if_block, turn_block, while_block}
 
 appended : (x : tree.Block) (f : tree.Form) (y : tree.Block) → tree.append (tree.append x (alone f)) y ≡ tree.append x (tree.Follow f y)
 appended tree.Stop f y = refl

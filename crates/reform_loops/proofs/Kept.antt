@@ -4,15 +4,16 @@ use Rattle.op_forms.specs.declared.constant.Const.{Const}
 use Rattle.op_forms.specs.declared.constant.Const.TheVariants as const
 use Rattle.op_forms.specs.declared.op.Op.{Op}
 use Rattle.op_forms.specs.declared.op.Op.TheVariants as op
-use Rattle.node_tree.specs.declared.node.Argument.{Argument}
-use Rattle.node_tree.specs.declared.node.Argument.TheVariants as argument
-use Rattle.node_tree.specs.declared.node.Operand.{Operand}
-use Rattle.node_tree.specs.declared.node.Operand.TheVariants as operand
+use Rattle.code_forms.specs.declared.operand.Argument.{Argument}
+use Rattle.code_forms.specs.declared.operand.Argument.TheVariants as argument
+use Rattle.code_forms.specs.declared.operand.Operand.{Operand}
+use Rattle.code_forms.specs.declared.operand.Operand.TheVariants as operand
 use Rattle.node_tree.specs.Blocks.{alone}
 use Rattle.node_tree.specs.Blocks as tree
-use Rattle.node_tree.specs.Contents.{total, form_operations, operations, form_constants, constants, operand_constants, form_yields, yields}
+use Rattle.node_tree.specs.Contents.{total, form_operations, operations, form_constants, constants, form_yields, yields}
+use Rattle.code_forms.specs.Contents.{operand_constants}
 use Rattle.node_tree.proofs.Direct.{total_append}
-use Rattle.nu_carries.specs.Laws.{if_block, turn_block, while_block}
+use Rattle.carries_base.specs.Laws.{if_block, turn_block, while_block}
 use Rattle.reform_loops.specs.Kept.{asks, flags}
 
 if_total : (count : tree.Form → ℕ) (line t : ℕ) (tb : tree.Block) (o : Operand) (y n : tree.Block) → total count (if_block line t tb o y n) ≡ total count tb + (count (tree.Do t line op.Truth (argument.Value o ∷ [])) + (count (tree.If (operand.Temp t) y n) + (total count y + total count n)))

@@ -3,15 +3,16 @@
 ghost use Rattle.std.specs.Prelude.{◌≡◌, ℕ, ◌+◌, ◌≤◌, List, [], ◌∷◌, Bool, Option, OnOk, IfOk};
 ghost use Rattle.op_forms.specs.declared.constant.Const.{Const as Constant};
 ghost use Rattle.op_forms.specs.declared.op.Op.{Op as Operation};
-ghost use Rattle.node_tree.specs.declared.node.Argument.{Argument as Taken};
-ghost use Rattle.node_tree.specs.declared.node.Argument.TheVariants as argument;
-ghost use Rattle.node_tree.specs.declared.node.Operand.{Operand as Tested};
-ghost use Rattle.node_tree.specs.Contents.{operations, constants, operand_constants, yields};
+ghost use Rattle.code_forms.specs.declared.operand.Argument.{Argument as Taken};
+ghost use Rattle.code_forms.specs.declared.operand.Argument.TheVariants as argument;
+ghost use Rattle.code_forms.specs.declared.operand.Operand.{Operand as Tested};
+ghost use Rattle.node_tree.specs.Contents.{operations, constants, yields};
+ghost use Rattle.code_forms.specs.Contents.{operand_constants};
 ghost use Rattle.node_tree.specs.Tree.{block};
 ghost use Rattle.py_meaning.specs.Syntax as syntax;
-ghost use Rattle.nu_carries.specs.Frames.{Homes, behind};
-ghost use Rattle.nu_carries.specs.Carries.{CarriesExpression, CarriesStatement, CarriesBlock};
-ghost use Rattle.nu_carries.specs.Laws.{Within, turn_block};
+ghost use Rattle.carries_base.specs.Frames.{Homes, behind};
+ghost use Rattle.carries_base.specs.Carries.{CarriesExpression, CarriesStatement, CarriesBlock};
+ghost use Rattle.carries_base.specs.Laws.{Within, turn_block};
 ghost use Rattle.reform_loops.specs.Kept.{asks, flags};
 
 use crate::branches::branch_on;

@@ -1,13 +1,13 @@
 -- Assignments of one value to several targets.
 use Rattle.std.proofs.Common.{◌≡◌, ℕ, ◌+◌, ◌<◌, ◌≤◌, List, [], ◌∷◌, Option, Some, None, refl, arith}
 use Rattle.nu_value.specs.declared.value.Value.{Value}
-use Rattle.node_tree.specs.declared.node.Operand.{Operand}
+use Rattle.code_forms.specs.declared.operand.Operand.{Operand}
 use Rattle.node_tree.specs.Blocks as tree
 use Rattle.py_meaning.specs.Syntax as syntax
-use Rattle.nu_carries.specs.Frames.{Homes, behind, Fact, Holds, Facts}
-use Rattle.nu_carries.specs.Carries.{CarriesExpression, CarriesTarget, CarriesStatement}
-use Rattle.nu_carries.proofs.Facts.{outside_less, within_below, forget}
-use Rattle.nu_carries.proofs.Sequence.{weaken, more_leaves, seq_carried, gives_carried}
+use Rattle.carries_base.specs.Frames.{Homes, behind, Fact, Holds, Facts}
+use Rattle.carries_base.specs.Carries.{CarriesExpression, CarriesTarget, CarriesStatement}
+use Rattle.carries_base.proofs.Facts.{outside_less, within_below, forget}
+use Rattle.carries_base.proofs.Sequence.{weaken, more_leaves, seq_carried, gives_carried}
 use Rattle.reform_unpack.specs.Laws.{CarriesTargets}
 
 pub no_target_carried : (h : Homes) (low : ℕ) (o : Operand) → behind h ≤ low → CarriesTargets h low low o syntax.NoTarget tree.Stop

@@ -2,23 +2,23 @@
 use Rattle.std.proofs.Common.{◌≡◌, ◌⊎◌, inl, inr, ℕ, ◌+◌, ◌<◌, ◌≤◌, List, [], ◌∷◌, ◌++◌, Option, Some, None, refl, sym, ap, ◌∙◌, subst, arith, append_assoc}
 use Rattle.nu_value.specs.declared.value.Value.{Value}
 use Rattle.op_forms.specs.declared.op.Op.{Op}
-use Rattle.node_tree.specs.declared.node.Argument.{Argument}
-use Rattle.node_tree.specs.declared.node.Argument.TheVariants as argument
+use Rattle.code_forms.specs.declared.operand.Argument.{Argument}
+use Rattle.code_forms.specs.declared.operand.Argument.TheVariants as argument
 use Rattle.node_tree.specs.declared.node.Node.{Node, Do}
-use Rattle.node_tree.specs.declared.node.Operand.{Operand}
-use Rattle.node_tree.specs.declared.node.Operand.TheVariants as operand
+use Rattle.code_forms.specs.declared.operand.Operand.{Operand}
+use Rattle.code_forms.specs.declared.operand.Operand.TheVariants as operand
 use Rattle.node_tree.specs.Blocks as tree
 use Rattle.node_tree.proofs.Direct.{block_append, total_append}
 use Rattle.node_tree.specs.Contents.{form_total, total}
 use Rattle.node_tree.specs.Nodes as nodes
 use Rattle.node_tree.specs.Tree.{form, block}
 use Rattle.py_meaning.specs.Syntax as syntax
-use Rattle.nu_carries.specs.Frames.{Homes, behind, Fact, Holds, Facts}
-use Rattle.nu_carries.specs.Carries.{CarriesExpression, CarriesTarget, CarriesStatement}
-use Rattle.nu_carries.proofs.Facts.{outside_off, outside_less, forget}
-use Rattle.nu_carries.proofs.Sequence.{weaken, more_leaves, seq_carried, then_carried}
-use Rattle.nu_carries.proofs.Operations.{operate_carried}
-use Rattle.nu_carries.proofs.Small.{within_off}
+use Rattle.carries_base.specs.Frames.{Homes, behind, Fact, Holds, Facts}
+use Rattle.carries_base.specs.Carries.{CarriesExpression, CarriesTarget, CarriesStatement}
+use Rattle.carries_base.proofs.Facts.{outside_off, outside_less, forget}
+use Rattle.carries_base.proofs.Sequence.{weaken, more_leaves, seq_carried, then_carried}
+use Rattle.carries_base.proofs.Operations.{operate_carried}
+use Rattle.carries_base.proofs.Small.{within_off}
 use Rattle.reform_expr.specs.declared.home.Home.{Home}
 use Rattle.reform_expr.proofs.Operands.{within_apart}
 use Rattle.reform_unpack.specs.declared.place.Place.{Place}
@@ -50,7 +50,7 @@ augmented h low mid from to high line at caught o name x a b c av bv apart cb ca
           (λ w. then_carried z h 2 (fo v w) k (fb v w) _ _ _ _ (λ u. forget (Holds (operand.Temp to) u) (fb v w))
           (operate_carried z h 2 (fb v w) line o (v ∷ w ∷ []) to (argument.Value av ∷ argument.Value bv ∷ []) above
           (within_off low mid to bv w (fa v) cb.within before (within_off from to to av v fs ca.within (omega arith) (outside_off h low high to fs (omega arith) (omega arith) off)))
-          (λ c g y. ap (λ q. nodes.both q (nodes.both (nodes.held g bv) (Some []))) y.1.0 ∙ ap (λ q. nodes.both (Some v) (nodes.both q (Some []))) y.0))
+          (λ c g y. ap (λ q. nodes.both q (nodes.both (nodes.operand_value g bv) (Some []))) y.1.0 ∙ ap (λ q. nodes.both (Some v) (nodes.both q (Some []))) y.0))
           (λ u. more_leaves z h 0 2 k (fo v w u) _ _ (omega arith)
           (weaken z h 0 (λ r. fo v w u) k (fo v w u) _ _ (λ r c g y. y.1.1.1)
           (cs.carries z (fo v w u) u (

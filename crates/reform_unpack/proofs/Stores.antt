@@ -2,19 +2,19 @@
 use Rattle.std.proofs.Common.{◌≡◌, ℕ, ◌+◌, ◌<◌, ◌≤◌, List, [], ◌∷◌, Option, Some, None, refl, ap, ◌∙◌, arith}
 use Rattle.nu_value.specs.declared.value.Value.{Value}
 use Rattle.op_forms.specs.declared.op.Op.TheVariants as op
-use Rattle.node_tree.specs.declared.node.Argument.TheVariants as argument
-use Rattle.node_tree.specs.declared.node.Operand.{Operand}
-use Rattle.node_tree.specs.declared.node.Operand.TheVariants as operand
+use Rattle.code_forms.specs.declared.operand.Argument.TheVariants as argument
+use Rattle.code_forms.specs.declared.operand.Operand.{Operand}
+use Rattle.code_forms.specs.declared.operand.Operand.TheVariants as operand
 use Rattle.node_tree.specs.Nodes as nodes
 use Rattle.py_meaning.specs.Syntax as syntax
 use Rattle.py_meaning.specs.Frames as python
 use Rattle.node_tree.specs.Blocks.{alone}
 use Rattle.node_tree.specs.Blocks as tree
-use Rattle.nu_carries.specs.Frames.{Homes, behind, Fact, Holds, Facts}
-use Rattle.nu_carries.specs.Carries.{CarriesTarget}
-use Rattle.nu_carries.proofs.Facts.{outside_off}
-use Rattle.nu_carries.proofs.Sequence.{weaken, one_carried}
-use Rattle.nu_carries.proofs.Operations.{operate_carried}
+use Rattle.carries_base.specs.Frames.{Homes, behind, Fact, Holds, Facts}
+use Rattle.carries_base.specs.Carries.{CarriesTarget}
+use Rattle.carries_base.proofs.Facts.{outside_off}
+use Rattle.carries_base.proofs.Sequence.{weaken, one_carried}
+use Rattle.carries_base.proofs.Operations.{operate_carried}
 use Rattle.reform_expr.specs.declared.home.Home.{Home}
 use Rattle.reform_expr.specs.declared.home.Home.TheVariants as home
 use Rattle.reform_expr.specs.Homes as homes

@@ -1,11 +1,11 @@
 -- What blocks of assignments carry.
 use Rattle.std.specs.Prelude.{ℕ, ◌≤◌, Option}
-use Rattle.node_tree.specs.declared.node.Operand.{Operand}
+use Rattle.code_forms.specs.declared.operand.Operand.{Operand}
 use Rattle.node_tree.specs.Blocks as tree
 use Rattle.py_meaning.specs.Syntax as syntax
 use Rattle.py_meaning.specs.Statements.{assign_all}
-use Rattle.nu_carries.specs.Frames.{Homes, behind}
-use Rattle.nu_carries.specs.Carries.{CarriesGiven, CarriesExpression, CarriesTarget, CarriesStatement}
+use Rattle.carries_base.specs.Frames.{Homes, behind}
+use Rattle.carries_base.specs.Carries.{CarriesGiven, CarriesExpression, CarriesTarget, CarriesStatement}
 
 -- the value that an operand holds goes to all these targets
 abbrev pub CarriesTargets : Homes → ℕ → ℕ → Operand → syntax.Targets → tree.Block → Type 0

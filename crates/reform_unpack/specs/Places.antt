@@ -1,8 +1,8 @@
 -- What is assigned to, as the meaning of scripts has it, and the statements that read it and store to it.
 use Rattle.std.specs.Prelude.{ℕ, [], ◌∷◌}
 use Rattle.op_forms.specs.declared.op.Op.TheVariants as op
-use Rattle.node_tree.specs.declared.node.Argument.TheVariants as argument
-use Rattle.node_tree.specs.declared.node.Operand.{Operand}
+use Rattle.code_forms.specs.declared.operand.Argument.TheVariants as argument
+use Rattle.code_forms.specs.declared.operand.Operand.{Operand}
 use Rattle.node_tree.specs.Blocks as tree
 use Rattle.py_meaning.specs.Syntax as syntax
 use Rattle.reform_expr.specs.declared.home.Home.{Home}

@@ -4,8 +4,8 @@ ghost use Rattle.std.specs.Prelude.{◌≡◌, ℕ, ◌+◌, ◌≤◌, OnOk, If
 ghost use Rattle.node_tree.specs.Blocks as tree;
 ghost use Rattle.node_tree.specs.Contents.{total};
 ghost use Rattle.node_tree.specs.Tree.{form, block};
-ghost use Rattle.nu_carries.specs.Frames.{Homes, behind};
-ghost use Rattle.nu_carries.specs.Carries.{CarriesTarget};
+ghost use Rattle.carries_base.specs.Frames.{Homes, behind};
+ghost use Rattle.carries_base.specs.Carries.{CarriesTarget};
 ghost use Rattle.reform_unpack.specs.Places.{target_of, stores};
 
 use crate::place::Place;

@@ -3,12 +3,12 @@
 ghost use Rattle.std.specs.Prelude.{◌≡◌, ℕ, ◌+◌, ◌≤◌, [], ◌∷◌, Option, OnOk, IfOk};
 ghost use Rattle.node_tree.specs.Blocks as tree;
 ghost use Rattle.node_tree.specs.Contents.{total};
-ghost use Rattle.node_tree.specs.declared.node.Argument.TheVariants as argument;
-ghost use Rattle.node_tree.specs.declared.node.Operand.TheVariants as operand;
+ghost use Rattle.code_forms.specs.declared.operand.Argument.TheVariants as argument;
+ghost use Rattle.code_forms.specs.declared.operand.Operand.TheVariants as operand;
 ghost use Rattle.node_tree.specs.Tree.{block};
 ghost use Rattle.py_meaning.specs.Syntax as syntax;
-ghost use Rattle.nu_carries.specs.Frames.{Homes, behind};
-ghost use Rattle.nu_carries.specs.Carries.{CarriesExpression, CarriesStatement};
+ghost use Rattle.carries_base.specs.Frames.{Homes, behind};
+ghost use Rattle.carries_base.specs.Carries.{CarriesExpression, CarriesStatement};
 ghost use Rattle.reform_unpack.specs.Places.{value_of, target_of, reads, stores};
 
 use crate::assigned::assign;

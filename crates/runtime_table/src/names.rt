@@ -135,7 +135,7 @@ pub fn cell_row(heap: &mut Heap) -> Result<OpEnd, AllocError>
 
 // What a cell holds.
 fn held_by(heap: &Heap, cell: &Value) -> Result<Value, AllocError>
-    ensures { IfOk result (λ v. v ≡ spec.held_by heap.now cell.now) }
+    ensures { IfOk result (λ v. v ≡ spec.content_of heap.now cell.now) }
 {
     match cell {
         Value::Obj(number) => match heap.get(*number) {

@@ -1,7 +1,7 @@
 use Rattle.std.proofs.Common.{rules, ◌≡◌, ◌∷◌, [], ◌+◌, ap}
 use Rattle.nu_value.specs.Names.{place_of}
 use Rattle.op_forms.specs.declared.op.Op.TheVariants as op
-use Rattle.c_meaning.specs.declared.program.Argument.TheVariants as argument
+use Rattle.code_forms.specs.declared.operand.Argument.TheVariants as argument
 use Rattle.c_machine.specs.Places.{asked, module_names}
 use Rattle.c_machine.proofs.Places.{set_either, two_arguments}
 use Rattle.c_machine.proofs.binding.set_found.Goals as goal

@@ -1,6 +1,6 @@
 use Rattle.std.proofs.Common.{rules, ◌≡◌, ◌∙◌, ◌∷◌, [], sym, ap, Some}
 use Rattle.op_forms.specs.declared.op.Op.TheVariants as op
-use Rattle.c_meaning.specs.declared.program.Argument.TheVariants as argument
+use Rattle.code_forms.specs.declared.operand.Argument.TheVariants as argument
 use Rattle.c_machine.specs.Places.{asked}
 use Rattle.c_machine.proofs.Places.{one_argument}
 use Rattle.c_machine.proofs.values.global_value.Goals as goal

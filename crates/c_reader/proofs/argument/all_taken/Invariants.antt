@@ -1,5 +1,5 @@
 use Rattle.std.proofs.Common.{◌≡◌, drop}
-use Rattle.c_meaning.specs.Written.{all_taken}
+use Rattle.code_forms.specs.Taking.{all_taken}
 use Rattle.c_reader.proofs.argument.all_taken.Given as goal
 
 -- what is left is taken as all of it is

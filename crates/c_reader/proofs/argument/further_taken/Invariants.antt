@@ -1,5 +1,5 @@
 use Rattle.std.proofs.Common.{◌≡◌, drop, [], Some}
-use Rattle.c_meaning.specs.Written.{all_taken}
+use Rattle.code_forms.specs.Taking.{all_taken}
 use Rattle.c_reader.proofs.argument.further_taken.Given as goal
 
 abbrev pub invariant-loop-argument : goal.invariant-loop-argument

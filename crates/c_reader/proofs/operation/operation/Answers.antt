@@ -1,6 +1,6 @@
 use Rattle.std.proofs.Common.{arith, ◌≡◌, ◌∙◌, ap}
 use Rattle.op_forms.specs.Signature.{arguments, further}
-use Rattle.c_meaning.specs.Written.{all_taken}
+use Rattle.code_forms.specs.Taking.{all_taken}
 use Rattle.c_reader.proofs.Operations.{operation_head, operation_given, operation_fail, not_taken, operation_of}
 use Rattle.c_reader.proofs.operation.operation.Goals as goal
 

@@ -8,7 +8,7 @@ use Rattle.flow_lower.proofs.lowering.+lowering.Goals as goal
 pub lower_node-returns-in_ok-mark-in-If-2-clause-lines : goal.lower_node-returns-in_ok-mark-in-If-2-clause-lines
 lower_node-returns-in_ok-mark-in-If-2-clause-lines t c = λ mid.
     emit_if c.in-If.test _ _ _ _ _ _ _ _ _ _ _ _ c.as_slice-in-If-2.result.now c.as_slice-in-If.result.now _ _ _ _ _ _ _
-    c.in_ok-test-in-If.ensures
+    c.in_ok-test-in-If.ensures.is
     c.in_ok-first-in-If.ensures.number c.in_ok-first-in-If.ensures.drawn c.in_ok-end-in-If.ensures.number c.in_ok-end-in-If.ensures.drawn
     c.in_ok-put-in-If.ensures
     (record { lines = c.in_ok-lower_nodes-in-If.ensures.lines; drawn = c.in_ok-lower_nodes-in-If.ensures.drawn; exits = c.in_ok-lower_nodes-in-If.ensures.exits })

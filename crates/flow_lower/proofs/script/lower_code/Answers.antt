@@ -1,4 +1,4 @@
-use Rattle.std.proofs.Common.{◌+◌, ◌^◌, ◌<◌, length, vec_len, refl, sym, ap, subst, ◌∙◌, arith}
+use Rattle.std.proofs.Common.{◌+◌, ◌^◌, ◌<◌, length, vec_len, sym, ap, subst, ◌∙◌, arith}
 use Rattle.flow_code.specs.Contents.{yields}
 use Rattle.flow_lower.proofs.WellFormed.{has_room}
 use Rattle.node_tree.specs.Tree.{block}
@@ -10,17 +10,14 @@ use Rattle.flow_lower.proofs.script.lower_code.Goals as goal
 
 pub returns-clause-lowers : goal.returns-clause-lowers
 returns-clause-lowers c = record {
-  scope = c.in_ok-share.ensures;
-  params = c.in_ok-share_shape.ensures;
-  generator = refl;
-  line = refl;
+  header = c.in_ok-share_header.ensures.is;
   labels = omega (arith, c.len-2.ensures, c.in_ok-lower_nodes.ensures.drawn, c.in_ok-fail.ensures.drawn, c.new-labels.ensures.len, ap (λ l. labels (block l)) c.as_slice-nodes.ensures);
   registers = c.in_ok-registers.ensures ∙ ap (λ ls. above (registers ls)) (c.deref.ensures.value ∙ sym c.from_vec.ensures);
   body =
       c.from_vec.ensures
-      ∙ emit_function (length c.args.code.now.params) c.args.code.now.free _ _ _ _ c.as_slice-nodes.result.now _ _ _ _ _ c.new-labels.ensures.len c.in_ok-fail.ensures.number c.in_ok-fail.ensures.drawn c.new-exits.ensures.items
+      ∙ emit_function (length c.args.code.now.header.params) c.args.code.now.free _ _ _ _ c.as_slice-nodes.result.now _ _ _ _ _ c.new-labels.ensures.len c.in_ok-fail.ensures.number c.in_ok-fail.ensures.drawn c.new-exits.ensures.items
       (λ tail. c.in_ok-put_parameters.ensures.lines tail ∙ ap (λ n. copies flat.Parameter n 0 0 tail) c.len.ensures) (c.in_ok-put_parameters.ensures.many ∙ c.len.ensures) c.in_ok-put_free.ensures c.in_ok-lower_nodes.ensures.lines c.in_ok-put.ensures c.in_ok-put_fail.ensures
-      ∙ ap (λ l. function_lines (length c.args.code.now.params) c.args.code.now.free (block l)) c.as_slice-nodes.ensures;
+      ∙ ap (λ l. function_lines (length c.args.code.now.header.params) c.args.code.now.free (block l)) c.as_slice-nodes.ensures;
 }
 
 pub returns-clause-room : goal.returns-clause-room

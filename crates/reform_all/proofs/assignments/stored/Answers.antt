@@ -1,6 +1,6 @@
 use Rattle.std.proofs.Common.{◌+◌, ◌≤◌, ◌∷◌, drop, subst, sym, arith}
 use Rattle.std.proofs.lemmas.List.{drop_all}
-use Rattle.nu_carries.specs.Carries.{CarriesTarget}
+use Rattle.carries_base.specs.Carries.{CarriesTarget}
 use Rattle.node_tree.specs.Tree.{block}
 use Rattle.reform_unpack.specs.Places.{target_of}
 use Rattle.reform_all.proofs.Quiets.{stores_quiet}
@@ -18,7 +18,7 @@ loop-target-preserved c =
     let drawn : c.loop-target.temps ≤ c.assign.new.temps = omega (arith, c.in_ok-next.ensures.drawn) in
     subst (λ l. Stores ts (drop (i + 1) ts) o c.args.temps.now c.assign.new.temps l) (sym c.in_ok-block.ensures)
     (stores_next ts c.target-item.result (drop (i + 1) ts) o c.in_ok-place.place c.args.temps.now c.loop-target.temps c.assign.new.temps c.loop-target.block c.in_ok-next.next before c.in_ok-place.ensures drawn
-    (λ h low st le. subst (λ v. CarriesTarget h low c.assign.new.temps v (target_of c.in_ok-place.place) (block c.in_ok-next.next)) c.in_ok-share.ensures (c.in_ok-next.ensures.carries h low st le))
+    (λ h low st le. subst (λ v. CarriesTarget h low c.assign.new.temps v (target_of c.in_ok-place.place) (block c.in_ok-next.next)) c.in_ok-share.ensures.is (c.in_ok-next.ensures.carries h low st le))
     (stores_quiet _ _ c.in_ok-place.place c.in_ok-next.next c.in_ok-next.ensures.contents))
 
 pub returns : goal.returns

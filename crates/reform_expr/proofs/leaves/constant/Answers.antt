@@ -1,4 +1,4 @@
-use Rattle.nu_carries.proofs.Small.{constant_carried}
+use Rattle.carries_base.proofs.Small.{constant_carried}
 use Rattle.reform_expr.proofs.leaves.constant.Goals as goal
 
 pub returns-clause-carries : goal.returns-clause-carries

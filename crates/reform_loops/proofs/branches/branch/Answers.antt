@@ -1,7 +1,7 @@
 use Rattle.std.proofs.Common.{◌≡◌}
 use Rattle.node_tree.specs.Tree.{block}
-use Rattle.nu_carries.specs.Laws.{if_block}
-use Rattle.nu_carries.proofs.Statements.{if_carried}
+use Rattle.carries_base.specs.Laws.{if_block}
+use Rattle.carries_base.proofs.Statements.{if_carried}
 use Rattle.reform_loops.proofs.Kept.{if_operations, if_constants, if_yields}
 use Rattle.reform_loops.proofs.branches.branch.Goals as goal
 

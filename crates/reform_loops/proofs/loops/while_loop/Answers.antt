@@ -1,7 +1,7 @@
 use Rattle.std.proofs.Common.{◌≡◌, ◌∙◌, refl}
 use Rattle.node_tree.specs.Tree.{block}
-use Rattle.nu_carries.specs.Laws.{while_block}
-use Rattle.nu_carries.proofs.Statements.{while_carried}
+use Rattle.carries_base.specs.Laws.{while_block}
+use Rattle.carries_base.proofs.Statements.{while_carried}
 use Rattle.reform_loops.proofs.Blocks.{while_is}
 use Rattle.reform_loops.proofs.Kept.{while_operations, while_constants, while_yields}
 use Rattle.reform_loops.proofs.loops.while_loop.Goals as goal

@@ -1,6 +1,6 @@
 use Rattle.std.proofs.Common.{◌∙◌, ap, subst}
 use Rattle.node_tree.specs.Tree.{block}
-use Rattle.nu_carries.specs.Carries.{CarriesExpression}
+use Rattle.carries_base.specs.Carries.{CarriesExpression}
 use Rattle.reform_unpack.proofs.Stores.{value_by, reads_by}
 use Rattle.reform_unpack.proofs.augmented.target.Goals as goal
 

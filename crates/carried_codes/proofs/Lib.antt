@@ -1,0 +1,13 @@
+pub mod Parts
+pub mod Operations
+pub mod Seats
+pub mod Functions
+pub mod Expressions
+pub mod Places
+pub mod Targets
+pub mod Clauses
+pub mod Definitions
+pub mod Statements
+pub mod Collected
+pub mod Codes
+pub mod Scripts

@@ -1,0 +1,11 @@
+pub mod Constants
+pub mod Operations
+pub mod Seats
+pub mod Parts
+pub mod Expressions
+pub mod Places
+pub mod Clauses
+pub mod Statements
+pub mod Nodes
+pub mod Targets
+pub mod Laws

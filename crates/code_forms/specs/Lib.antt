@@ -1,0 +1,4 @@
+pub mod Fits
+pub mod Reading
+pub mod Contents
+pub mod Taking

@@ -1,5 +1,0 @@
-use Rattle.nu_carries.proofs.Scripts.{script_same}
-use Rattle.nu_carries.proofs.carried_scripts_are_the_same.Goals as goal
-
-pub returns : goal.returns
-returns c = script_same

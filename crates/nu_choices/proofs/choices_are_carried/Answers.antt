@@ -1,6 +1,0 @@
-use Rattle.nu_choices.proofs.Choices.{junction_carried, conditional_carried}
-use Rattle.nu_choices.proofs.Comparisons.{comparison_carried}
-use Rattle.nu_choices.proofs.choices_are_carried.Goals as goal
-
-pub returns : goal.returns
-returns c = record { junction = junction_carried; conditional = conditional_carried; comparison = comparison_carried }

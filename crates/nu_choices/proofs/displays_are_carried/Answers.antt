@@ -1,5 +1,0 @@
-use Rattle.nu_choices.proofs.Displays.{list_carried, tuple_carried, dict_carried}
-use Rattle.nu_choices.proofs.displays_are_carried.Goals as goal
-
-pub returns : goal.returns
-returns c = record { list = list_carried; tuple = tuple_carried; dict = dict_carried }

@@ -1,6 +1,0 @@
-use Rattle.nu_definitions.proofs.Decorated.{define_carried}
-use Rattle.nu_definitions.proofs.Classes.{class_carried}
-use Rattle.nu_definitions.proofs.definitions_are_carried.Goals as goal
-
-pub returns : goal.returns
-returns c = record { define = define_carried; class = class_carried }

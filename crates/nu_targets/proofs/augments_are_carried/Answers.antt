@@ -1,5 +1,0 @@
-use Rattle.nu_targets.proofs.Augments.{name_carried, attribute_carried, index_carried}
-use Rattle.nu_targets.proofs.augments_are_carried.Goals as goal
-
-pub returns : goal.returns
-returns c = record { name = name_carried; attribute = attribute_carried; index = index_carried }

@@ -1,5 +1,0 @@
-use Rattle.nu_targets.proofs.Assignments.{none_carried, also_carried, assign_carried}
-use Rattle.nu_targets.proofs.target_lists_are_carried.Goals as goal
-
-pub returns : goal.returns
-returns c = record { none = none_carried; also = also_carried; assign = assign_carried }
