@@ -1,3 +1,3 @@
 mod Chains
-mod Keywords
+mod Pairs
 mod Ready

@@ -1,5 +1,5 @@
 -- Laws of binding: each parameter gets one value, and each argument goes to one parameter.
-use Rattle.std.specs.Prelude.{◌≡◌, ◌<◌, ◌≤◌, ℕ, zero, suc, List, [], ◌∷◌, Option, Some, true, Bool, if◌then◌else◌, length, slice_get}
+use Rattle.std.specs.Prelude.{◌≡◌, ◌<◌, ◌≤◌, ℕ, zero, suc, List, [], ◌∷◌, Option, Some, Bool, true, false, length, slice_get}
 use Rattle.nu_value.specs.declared.value.Value.{Value}
 use Rattle.nu_value.specs.Names.{value_at}
 use Rattle.op_rules.specs.declared.binding.Named.{Named}

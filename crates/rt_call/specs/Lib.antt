@@ -1,2 +1,2 @@
-pub mod Keywords
+pub mod Pairs
 pub mod Laws

@@ -3,7 +3,7 @@
 ghost use Rattle.std.specs.Prelude.{◌≡◌, [], IfOk, OnOk, slice_get};
 ghost use Rattle.nu_value.specs.Same as same;
 ghost use Rattle.op_rules.specs.Calls as spec;
-ghost use Rattle.rt_call.specs.Keywords.{keyword_at};
+ghost use Rattle.rt_call.specs.Pairs.{keyword_at};
 
 use crate::collecting::copied;
 use crate::objects::object_of;
@@ -30,7 +30,7 @@ fn put_keyword(pairs: &Pairs, place: usize, names: &mut Names) -> Result<(), All
 }
 
 /// The keywords of a dict.
-#[tactic(auto, using(crate::proofs::Keywords::keywords_on))]
+#[tactic(auto, using(crate::proofs::Pairs::keywords_on))]
 pub fn keywords_of(alloc: Global, pairs: &Pairs) -> Result<Names, AllocError>
     ensures { IfOk result (λ names. names ≡ spec.keywords_of pairs.now []) }
 {

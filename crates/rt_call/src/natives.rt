@@ -131,7 +131,7 @@ fn getattr_row(alloc: Global, args: &[Value]) -> Result<OpEnd, AllocError>
     ensures { IfOk result (λ e. e ≡ spec.getattr_row args.now) }
 {
     match args {
-        [_, _] => raised(alloc, TYPE_ERROR, "attribute name must be string"),
+        [_value, _name] => raised(alloc, TYPE_ERROR, "attribute name must be string"),
         _ => unbuilt(),
     }
 }

@@ -1,3 +1,3 @@
 mod Keywords
 mod Begun
-mod Quick
+mod Placed

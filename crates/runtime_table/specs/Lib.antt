@@ -1,3 +1,3 @@
 pub mod Keywords
 pub mod Begun
-pub mod Quick
+pub mod Placed

@@ -6,7 +6,7 @@ ghost use Rattle.op_forms.specs.declared.end.OpEnd.TheVariants as opend;
 ghost use Rattle.op_forms.specs.declared.op.Op.TheVariants as op;
 ghost use Rattle.op_forms.specs.Answers.{keeps};
 ghost use Rattle.op_rules.specs.Table.{row};
-ghost use Rattle.runtime_table.specs.Quick as spec;
+ghost use Rattle.runtime_table.specs.Placed as spec;
 
 use nu_text::RcStr;
 use nu_value::{Header, Items, Object, ParamKind, Value};
@@ -33,7 +33,7 @@ fn takes_just(header: &Header, count: usize) -> bool
 }
 
 /// The function that a call begins, with the values of its parameters, where these are just the arguments.
-#[tactic(auto, using(crate::proofs::Quick::just_called))]
+#[tactic(auto, using(crate::proofs::Placed::just_called))]
 pub fn quick_call(
     alloc: Global,
     world: &World,

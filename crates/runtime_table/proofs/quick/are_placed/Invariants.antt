@@ -1,5 +1,5 @@
 use Rattle.std.proofs.Common.{◌≡◌, drop}
-use Rattle.runtime_table.specs.Quick.{are_placed}
+use Rattle.runtime_table.specs.Placed.{are_placed}
 use Rattle.runtime_table.proofs.quick.are_placed.Given as goal
 
 abbrev pub invariant-loop-param : goal.invariant-loop-param

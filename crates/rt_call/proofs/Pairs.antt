@@ -4,7 +4,7 @@ use Rattle.std.specs.Prelude.{slice_get}
 use Rattle.nu_value.specs.Names.{NameList}
 use Rattle.nu_value.specs.Pairs.{PairList}
 use Rattle.op_rules.specs.Calls.{keywords_of}
-use Rattle.rt_call.specs.Keywords.{keyword_at}
+use Rattle.rt_call.specs.Pairs.{keyword_at}
 
 step : (ps : PairList) (i : ℕ) (names : NameList) → i < length ps → keywords_of (drop i ps) names ≡ keywords_of (drop (suc i) ps) (keyword_at (slice_get ps i) names)
 step [] i names p = absurd (omega arith)

@@ -23,7 +23,7 @@ use Rattle.op_rules.specs.Binding.{ParamList, Call, call_of, is_placed, is_star,
 use Rattle.op_rules.specs.Calls.{call_object}
 use Rattle.op_rules.specs.Routes.{object_route}
 use Rattle.op_rules.specs.Table.{routed, doing, row}
-use Rattle.runtime_table.specs.Quick.{are_placed, takes_just}
+use Rattle.runtime_table.specs.Placed.{are_placed, takes_just}
 
 and_left : (a b : Bool) → (a && b) ≡ true → a ≡ true
 and_left true b e = refl
