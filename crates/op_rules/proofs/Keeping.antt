@@ -29,11 +29,12 @@ use Rattle.op_forms.specs.Right.{Grows, within, GivenBy, RestOf, PutOf, CallOf, 
 use Rattle.op_forms.specs.Signature.{arguments, further}
 use Rattle.op_forms.specs.Sound.{IsIn, AllIn, AfterIn, HowIn, EndIn, Sound}
 use Rattle.op_forms.proofs.Objects.{all_by, names_by, in_more}
-use Rattle.op_rules.specs.Binding.{bound_end}
+use Rattle.op_rules.specs.Binding.{bind, bound_end}
 use Rattle.op_rules.specs.Finish.{finishing}
 use Rattle.op_rules.specs.Laws.{RowsKeepSound, FinishingKeepsSound}
 use Rattle.op_rules.specs.Table.{group, doing}
-use Rattle.op_rules.proofs.Rows.{row_right, bound_right, finishing_right}
+use Rattle.op_rules.proofs.Begun.{bind_right, bound_right}
+use Rattle.op_rules.proofs.Rows.{doing_right, finishing_right}
 
 -- ---- what fitting arguments are
 
@@ -193,10 +194,13 @@ module _ (w : World) (more : List Object) (g : Grows w.heap more) where
 -- ---- the laws
 
 pub asking_sound : DoingsKeepSound → (o : Op) (w : World) (args : List Value) → Sound w → fits o w args ≡ true → Sound (after w (answer w (doing o w args))) × EndIn (heap_after w.heap (doing o w args)) (doing o w args).end
-asking_sound sound o w args s e = sound w (doing o w args) s (λ more g k. row_right (within more) w k (group o) o args (given_of w more g o args e))
+asking_sound sound o w args s e = sound w (doing o w args) s (λ more g k. doing_right (within more) w k (group o) o args (given_of w more g o args e))
 
 pub bound_sound : DoingsKeepSound → (w : World) (e : OpEnd) → Sound w → EndIn w.heap e → Sound (after w (answer w (bound_end w e))) × EndIn (heap_after w.heap (bound_end w e)) (bound_end w e).end
 bound_sound sound w e s p = sound w (bound_end w e) s (λ more g k. (bound_right (within more) w k e (end_of w more g e p)).0)
+
+pub bind_sound : DoingsKeepSound → (w : World) (f : ℕ) (args : List Value) (a : After) → Sound w → AllIn w.heap args → AfterIn w.heap a → Sound (after w (answer w (bind w f args [] a))) × EndIn (heap_after w.heap (bind w f args [] a)) (bind w f args [] a).end
+bind_sound sound w f args a s p q = sound w (bind w f args [] a) s (λ more g k. (bind_right (within more) w k f args [] a tt (args_more w more g args p) tt (after_of w more g a q)).0)
 
 pub rows_sound : DoingsKeepSound → RowsKeepSound
 rows_sound sound o w args s e =

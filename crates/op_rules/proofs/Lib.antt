@@ -4,6 +4,8 @@ mod Powers
 pub mod Usual
 pub mod Plain
 pub mod Asks
+pub mod Begun
+pub mod Calls
 pub mod Access
 pub mod AskedValues
 pub mod AllItems
@@ -29,6 +31,7 @@ pub mod Attributes
 pub mod Exceptions
 pub mod ClassCalls
 pub mod Classes
+pub mod Routes
 pub mod Rows
 pub mod Keeping
 mod Start

@@ -24,7 +24,6 @@ use Rattle.nu_text.specs.Characters.{characters}
 use Rattle.op_rules.specs.TextRows.{sized, size_limit, repeated_by, copy_count, copies, text_add, text_mul, text_mod, text_pair, text_operation, on_texts, text_order, text_row}
 use Rattle.op_rules.specs.Finish.{truth_after, length_after}
 use Rattle.op_rules.specs.Kinds.{value_error}
-use Rattle.op_rules.specs.CallRows.{text_of, printed, print_row, call_object, call_value, call_row}
 use Rattle.op_forms.specs.declared.world.World.{World}
 use Rattle.op_forms.specs.Doing.{ends}
 use Rattle.op_forms.specs.Parts.{AllOf}
@@ -259,37 +258,6 @@ text_plain op.Neg h args = one_plain _ (λ a. (lit< tt, tt)) args
 text_plain op.Pos h args = one_plain _ (λ a. (lit< tt, tt)) args
 text_plain op.Inv h args = one_plain _ (λ a. (lit< tt, tt)) args
 text_plain other h args = tt
-
--- ---- calls
-
-printed_plain : (t : Option (List ℕ)) → IsPlain (printed t)
-printed_plain None = tt
-printed_plain (Some t) = tt
-
-print_plain : (args : List Value) → IsPlain (print_row args)
-print_plain [] = tt
-print_plain (v ∷ []) = printed_plain (text_of v)
-print_plain (v ∷ w ∷ vs) = tt
-
-call_object_plain : (h : List Object) (f : Value) (o : Option Object) (args : List Value) → IsPlain (call_object h f o args)
-call_object_plain h f (Some (object.Builtin name receiver)) args = if_plain (bytes_eq name (codes "print")) (print_row args) _ (print_plain args) tt
-call_object_plain h f (Some (object.Function code defaults keywords cells)) args = tt
-call_object_plain h f (Some (object.Method receiver function)) args = tt
-call_object_plain h f (Some (object.Class name base own native)) args = tt
-call_object_plain h f (Some (object.Instance class fields)) args = tt
-call_object_plain h f other args = (lit< tt, tt)
-
-call_value_plain : (h : List Object) (f : Value) (args : List Value) → IsPlain (call_value h f args)
-call_value_plain h (value.Obj n) args = call_object_plain h (value.Obj n) (slice_get h n) args
-call_value_plain h value.Unset args = (lit< tt, tt)
-call_value_plain h value.None args = (lit< tt, tt)
-call_value_plain h (value.Bool b) args = (lit< tt, tt)
-call_value_plain h (value.Int z) args = (lit< tt, tt)
-call_value_plain h (value.Str text) args = (lit< tt, tt)
-
-pub call_plain : (h : List Object) (args : List Value) → IsPlain (call_row h args)
-call_plain h [] = tt
-call_plain h (f ∷ args) = call_value_plain h f args
 
 -- ---- the values of asked functions
 

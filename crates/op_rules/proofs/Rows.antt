@@ -1,13 +1,12 @@
 -- Every row uses only what it is given, what it finds there and what it makes.
 use Rattle.std.proofs.Common.{ℕ, List, [], ◌∷◌, Option, Some, None, lit<, inr}
-use Rattle.std.specs.Prelude.{pos, not, slice_get}
-use Rattle.std.specs.Ordering.{int_eq}
+use Rattle.std.specs.Prelude.{slice_get}
 use Rattle.nu_value.specs.declared.object.Object.{Object}
 use Rattle.nu_value.specs.declared.object.Object.TheVariants as object
 use Rattle.nu_value.specs.declared.value.Value.{Value}
 use Rattle.nu_value.specs.declared.value.Value.TheVariants as value
-use Rattle.nu_value.specs.Names.{value_at}
-use Rattle.nu_value.specs.Same.{number_of, object_of}
+use Rattle.nu_value.specs.Names.{NameList, value_at}
+use Rattle.nu_value.specs.Same.{object_of}
 use Rattle.op_forms.specs.declared.end.After.{After}
 use Rattle.op_forms.specs.declared.end.After.TheVariants as behind
 use Rattle.op_forms.specs.declared.end.OpEnd.{OpEnd}
@@ -22,23 +21,26 @@ use Rattle.op_forms.specs.Right.{Claim, Known, Closed, Given, AfterOf, EndOf, Ri
 use Rattle.op_forms.proofs.Bindings.{value_of}
 use Rattle.op_rules.specs.declared.family.Family.{Family}
 use Rattle.op_rules.specs.declared.family.Family.TheVariants as family
-use Rattle.op_rules.specs.Binding.{bound_end}
-use Rattle.op_rules.specs.Comparisons.{give_bool}
-use Rattle.op_rules.specs.Finish.{is_none, made_after, tuple_after, finishing}
+use Rattle.op_rules.specs.Finish.{tuple_after, finishing}
 use Rattle.op_rules.specs.NameRows.{no_local, no_free, value_or, global_row, without_at, set_or, local_row, content, content_of, cellset_row, empties, spaceget_row, spaceset_row, spacedel_row, native_row, names, spaces}
-use Rattle.op_rules.specs.Table.{family_row, family_of, family_at_first, family_at_second, truth_of, calling, Group, Names, Spaces, Making, Mapping, Classing, Operators, Comparing, Testing, Accessing, Containing, Calling, row_of}
+use Rattle.op_rules.specs.declared.callees.Route.{Route}
+use Rattle.op_rules.specs.declared.callees.Route.TheVariants.{Operation, BuiltIn, Itself}
+use Rattle.op_rules.specs.Calls.{callee, given_args, given_names, call_row}
+use Rattle.op_rules.specs.Families.{family_of, family_at_first, family_at_second}
+use Rattle.op_rules.specs.Routes.{route, builtin_name, builtin_receiver}
+use Rattle.op_rules.specs.Table.{family_row, truth_of, Group, Names, Spaces, Making, Mapping, Classing, Operators, Comparing, Testing, Accessing, Containing, Calling, group, row_of, builtin_call, routed, calling, doing_of}
 use Rattle.op_rules.proofs.Access.{other_right}
-use Rattle.op_rules.proofs.Classes.{class_right, attributes_right}
-use Rattle.op_rules.proofs.Dicts.{dict_right}
-use Rattle.op_rules.proofs.Sequences.{sequence_right}
+use Rattle.op_rules.proofs.Calls.{Arguments, called_right, func_right}
+use Rattle.op_rules.proofs.Classes.{class_right, attributes_right, class_call_right}
+use Rattle.op_rules.proofs.Dicts.{dict_right, dict_call_right}
+use Rattle.op_rules.proofs.Routes.{RouteOf, callee_known, arguments_known, callee_listed, arguments_listed, route_right, receiver_known}
+use Rattle.op_rules.proofs.Sequences.{sequence_right, sequence_call_right}
 use Rattle.op_rules.proofs.TextAccess.{text_right}
-use Rattle.op_rules.proofs.Plain.{plain_right, call_plain, truth_after_plain, length_after_plain}
+use Rattle.op_rules.proofs.TextCalls.{text_builtin_right}
+use Rattle.op_rules.proofs.TextPlain.{join_after_plain}
+use Rattle.op_rules.proofs.Plain.{plain_right}
+use Rattle.op_rules.proofs.Begun.{value_end}
 use Rattle.op_rules.proofs.Usual.{ended, fails, failed, idle, given_right, change_right, made_right, if_end}
-
--- once it is bound nothing is asked any more
-abbrev pub Asked : World → OpEnd → Type 0
-Asked w (opend.Ask f args names a) = ⊥
-Asked w other = Unit {0}
 
 module _ (c : Claim) (w : World) (k : Closed c w) where
   -- ---- names
@@ -145,13 +147,9 @@ module _ (c : Claim) (w : World) (k : Closed c w) where
   truth_right family.Classes o args q = class_right c w k o args q
   truth_right f o args q = other_right c w k o args q
 
-  calling_right : (o : Op) (args : List Value) → Given c o args → Right c w (calling o w args)
-  calling_right op.Call args q = plain_right c w k _ (call_plain w.heap args)
-  calling_right o args q = idle c w k
-
   -- ---- the table
 
-  pub row_right : (g : Group) (o : Op) (args : List Value) → Given c o args → Right c w (row_of g o w args)
+  row_right : (g : Group) (o : Op) (args : List Value) → Given c o args → Right c w (row_of g o w args)
   row_right Names o args q = names_right o args q
   row_right Spaces o args q = spaces_right o args q
   row_right Making o args q = sequence_right c w k o args q
@@ -162,24 +160,42 @@ module _ (c : Claim) (w : World) (k : Closed c w) where
   row_right Testing o args q = truth_right (family_at_first w.heap args) o args q
   row_right Accessing o args q = family_right (family_at_first w.heap args) o args q
   row_right Containing o args q = family_right (family_at_second w.heap args) o args q
-  row_right Calling o args q = calling_right o args q
+  row_right Calling o args q = idle c w k
 
-  -- ---- binding
+  -- ---- calls
 
-  pub bound_right : (e : OpEnd) → EndOf c w e → Right c w (bound_end w e) × Asked w (bound_end w e).end
-  bound_right (opend.Ask f args names a) p = (idle c w k, tt)
-  bound_right (opend.Give v) p = (ended c w k (opend.Give v) p, tt)
-  bound_right (opend.Raise n args) p = (ended c w k (opend.Raise n args) p, tt)
-  bound_right (opend.Resume g how) p = (idle c w k, tt)
-  bound_right (opend.Put text) p = (ended c w k (opend.Put text) p, tt)
-  bound_right opend.Line p = (idle c w k, tt)
-  bound_right (opend.Stop kind) p = (ended c w k (opend.Stop kind) p, tt)
+  builtin_right : (f : Family) (name : List ℕ) (receiver : Value) (args : List Value) (names : NameList) → OrUnset c.of receiver → Arguments c w k args names → Right c w (builtin_call f w.codes w.heap name receiver args names)
+  builtin_right family.Classes name receiver args names p x = class_call_right c w k name receiver args names p x.values x.keywords x.distinct
+  builtin_right family.Dicts name receiver args names p x = dict_call_right c w k name receiver args names p x.values x.keywords x.distinct
+  builtin_right family.Sequences name receiver args names p x = sequence_call_right c w k name receiver args names p x.values x.keywords x.distinct
+  builtin_right family.Texts name receiver args names p x = text_builtin_right c w k name receiver args names p x.values x.keywords x.distinct
+  builtin_right family.Integers name receiver args names p x = idle c w k
+
+  routed_right : (r : Route) (o : Op) (args : List Value) → RouteOf c w k r (given_args o w.heap args) → Arguments c w k (given_args o w.heap args) (given_names o w.heap args) → Right c w (call_row o w.codes w.heap args) → Right c w (routed r o w args)
+  routed_right (Operation p) o args q x y = row_right (group p) p (given_args o w.heap args) q
+  routed_right (BuiltIn f) o args q x y =
+      builtin_right f (builtin_name (object_of w.heap (callee args))) (builtin_receiver (object_of w.heap (callee args))) _ _ (receiver_known c w k (callee args)) x
+  routed_right Itself o args q x y = y
+
+  calling_right : (o : Op) (args : List Value) → Given c o args → Right c w (calling o w args)
+  calling_right op.Func args q = func_right c w k args q
+  calling_right op.Call (f ∷ vs) q =
+      let args : List Value = f ∷ vs in
+      let x : Arguments c w k vs [] = arguments_known c w k f vs q in
+      routed_right (route op.Call w.heap args) op.Call args (route_right c w k op.Call args x.values) x
+      (called_right c w k f vs [] (callee_known c w k f vs q) x)
+  calling_right op.CallX (f ∷ list ∷ dict ∷ []) q =
+      let args : List Value = f ∷ list ∷ dict ∷ [] in
+      let x : Arguments c w k (given_args op.CallX w.heap args) (given_names op.CallX w.heap args) = arguments_listed c w k f list dict in
+      routed_right (route op.CallX w.heap args) op.CallX args (route_right c w k op.CallX args x.values) x
+      (called_right c w k f _ _ (callee_listed c w k f list dict q) x)
+  calling_right o args q = idle c w k
+
+  pub doing_right : (g : Group) (o : Op) (args : List Value) → Given c o args → Right c w (doing_of g o w args)
+  doing_right Calling o args q = calling_right o args q
+  doing_right g o args q = row_right g o args q
 
   -- ---- the values of asked functions
-
-  made_after_right : (made v : Value) → c.of made → EndOf c w (made_after made v)
-  made_after_right value.None v p = p
-  made_after_right made v p = if_end c w k (is_none v) (opend.Give made) _ p (fails c w k 35 _ (lit< tt))
 
   tuple_after_right : (n : ℕ) (o : Option Object) → Known c w n o → Right c w (tuple_after w.heap o)
   tuple_after_right n (Some (object.List items)) p = made_right c w k (object.Tuple items) (p.parts, tt, tt)
@@ -190,12 +206,11 @@ module _ (c : Claim) (w : World) (k : Closed c w) where
   value_tuple_right v = idle c w k
 
   pub finishing_right : (a : After) (v : Value) → AfterOf c w a → c.of v → Right c w (finishing a w.heap v)
-  finishing_right behind.Plain v p q = given_right c w k v q
-  finishing_right behind.Truth v p q = plain_right c w k _ (truth_after_plain v)
-  finishing_right behind.Some v p q =
-      plain_right c w k _ (length_after_plain (λ z. give_bool (not (int_eq z (pos 0)))) (number_of v) (λ z. tt))
-  finishing_right behind.Length v p q = plain_right c w k _ (length_after_plain (λ z. opend.Give (value.Int z)) (number_of v) (λ z. tt))
-  finishing_right (behind.Made made) v p q = ended c w k _ (made_after_right made v p)
-  finishing_right (behind.Join text) v p q = idle c w k
+  finishing_right behind.Plain v p q = ended c w k _ (value_end c w k behind.Plain v p q)
+  finishing_right behind.Truth v p q = ended c w k _ (value_end c w k behind.Truth v p q)
+  finishing_right behind.Some v p q = ended c w k _ (value_end c w k behind.Some v p q)
+  finishing_right behind.Length v p q = ended c w k _ (value_end c w k behind.Length v p q)
+  finishing_right (behind.Made made) v p q = ended c w k _ (value_end c w k (behind.Made made) v p q)
+  finishing_right (behind.Join text) v p q = plain_right c w k _ (join_after_plain text (object_of w.heap v))
   finishing_right behind.Tuple v p q = value_tuple_right v
   finishing_right (behind.Report exception) v p q = idle c w k

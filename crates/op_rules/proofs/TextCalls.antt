@@ -13,13 +13,13 @@ use Rattle.op_forms.specs.declared.world.World.{World}
 use Rattle.op_forms.specs.Parts.{AllOf, NamesOf, OrUnset}
 use Rattle.op_forms.specs.Right.{Claim, Closed, EndOf, Right}
 use Rattle.op_forms.specs.Sound.{AreNamesDistinct}
-use Rattle.op_rules.specs.TextCalls.{called_on, text_call}
+use Rattle.op_rules.specs.TextCalls.{called_on, text_call, text_builtin}
 use Rattle.op_rules.specs.TextMethods.{with_affix, with_text, join_on, join_method, text_list, split_words, split_at, split_by, startswith_text, endswith_text, find_text, count_text, method_of_one, text_method}
 use Rattle.op_rules.specs.TextParts.{pieces, text_values, is_ascii, words}
 use Rattle.op_rules.specs.TextRows.{size_limit}
 use Rattle.op_rules.proofs.Asks.{asks_right}
 use Rattle.op_rules.proofs.Plain.{plain_end, plain_right}
-use Rattle.op_rules.proofs.TextPlain.{with_text_plain, affix_plain, joined_plain, none_plain, two_texts_plain, native_plain}
+use Rattle.op_rules.proofs.TextPlain.{with_text_plain, affix_plain, joined_plain, none_plain, two_texts_plain, show_plain, native_plain}
 use Rattle.op_rules.proofs.Usual.{ended, failed, idle, made_right, if_right, if_end}
 
 module _ (c : Claim) (w : World) (k : Closed c w) where
@@ -81,3 +81,9 @@ module _ (c : Claim) (w : World) (k : Closed c w) where
       → Right c w (text_call w.heap name receiver args names)
   text_call_right name receiver args [] p q r d = called_right name receiver args q
   text_call_right name receiver args (n ∷ names) p q r d = idle c w k
+
+  pub text_builtin_right : (name : List ℕ) (receiver : Value) (args : List Value) (names : NameList) → OrUnset c.of receiver → AllOf c.of args → NamesOf c.of names → AreNamesDistinct names
+      → Right c w (text_builtin w.codes w.heap name receiver args names)
+  text_builtin_right name value.Unset args [] p q r d =
+      if_right c w k (bytes_eq name (codes "_nu_text")) _ _ (plain_right c w k _ (show_plain w.codes w.heap args)) (text_call_right name value.Unset args [] p q r d)
+  text_builtin_right name receiver args names p q r d = text_call_right name receiver args names p q r d

@@ -11,7 +11,7 @@ use Rattle.nu_value.specs.declared.object.Object.{Object}
 use Rattle.nu_value.specs.declared.object.Object.TheVariants as object
 use Rattle.op_forms.specs.declared.end.OpEnd.{OpEnd}
 use Rattle.op_forms.specs.Answers.{unbuilt}
-use Rattle.op_rules.specs.CallRows.{text_of}
+use Rattle.op_rules.specs.NativeCalls.{text_of}
 use Rattle.op_rules.specs.Kinds.{class_name}
 use Rattle.op_rules.specs.TextMethods.{give_text, sized_text}
 

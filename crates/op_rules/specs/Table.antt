@@ -1,9 +1,10 @@
 -- The table of operations: what each gives, raises, prints or stops with, and the objects after it.
-use Rattle.std.specs.Prelude.{List, [], ◌∷◌, Option, Some, slice_get}
+use Rattle.std.specs.Prelude.{ℕ, List, [], ◌∷◌, Option}
+use Rattle.nu_value.specs.declared.header.Header.{Header}
 use Rattle.nu_value.specs.declared.value.Value.{Value}
-use Rattle.nu_value.specs.declared.value.Value.TheVariants as value
 use Rattle.nu_value.specs.declared.object.Object.{Object}
-use Rattle.nu_value.specs.declared.object.Object.TheVariants as object
+use Rattle.nu_value.specs.Names.{NameList}
+use Rattle.nu_value.specs.Same.{object_of}
 use Rattle.op_rules.specs.declared.family.Family.{Family}
 use Rattle.op_rules.specs.declared.family.Family.TheVariants as family
 use Rattle.op_forms.specs.declared.op.Op.{Op}
@@ -13,45 +14,17 @@ use Rattle.op_forms.specs.Answers.{Answer}
 use Rattle.op_forms.specs.Doing.{Doing, nothing, ends, answer}
 use Rattle.op_rules.specs.NameRows.{names, spaces}
 use Rattle.op_rules.specs.Access.{other_row}
-use Rattle.op_rules.specs.Classes.{class_row, attribute_row}
-use Rattle.op_rules.specs.Dicts.{dict_row}
-use Rattle.op_rules.specs.Sequences.{sequence_row}
+use Rattle.op_rules.specs.Classes.{class_row, attribute_row, class_call}
+use Rattle.op_rules.specs.Dicts.{dict_row, dict_call}
+use Rattle.op_rules.specs.Sequences.{sequence_row, sequence_call}
 use Rattle.op_rules.specs.TextAccess.{text_doing}
-use Rattle.op_rules.specs.CallRows.{call_row}
+use Rattle.op_rules.specs.TextCalls.{text_builtin}
+use Rattle.op_rules.specs.Calls.{callee, given_args, given_names, call_row}
+use Rattle.op_rules.specs.Families.{family_of, family_at_first, family_at_second}
+use Rattle.op_rules.specs.Routes.{route, builtin_name, builtin_receiver}
+use Rattle.op_rules.specs.declared.callees.Route.{Route}
+use Rattle.op_rules.specs.declared.callees.Route.TheVariants.{Operation, BuiltIn, Itself}
 use Rattle.op_rules.specs.Binding.{bound}
-
-abbrev pub object_family : Option Object → Family
-object_family (Some (object.Instance class fields)) = family.Classes
-object_family (Some (object.Class name base own native)) = family.Classes
-object_family (Some (object.Exception class args entries fields cause)) = family.Classes
-object_family (Some (object.Dict pairs)) = family.Dicts
-object_family (Some (object.View dict kind)) = family.Dicts
-object_family (Some (object.Tuple items)) = family.Sequences
-object_family (Some (object.List items)) = family.Sequences
-object_family (Some (object.Range start stop step)) = family.Sequences
-object_family (Some (object.Iterator over place size over_now)) = family.Sequences
-object_family other = family.Integers
-
-abbrev pub value_family : List Object → Value → Family
-value_family h (value.Str text) = family.Texts
-value_family h (value.Obj n) = object_family (slice_get h n)
-value_family h other = family.Integers
-
--- the one that comes first in the order classes, dicts, sequences, texts, integers
-abbrev pub first_family : Family → Family → Family
-first_family family.Classes g = family.Classes
-first_family family.Dicts family.Classes = family.Classes
-first_family family.Dicts g = family.Dicts
-first_family family.Sequences family.Classes = family.Classes
-first_family family.Sequences family.Dicts = family.Dicts
-first_family family.Sequences g = family.Sequences
-first_family family.Texts family.Integers = family.Texts
-first_family family.Texts g = g
-first_family family.Integers g = g
-
-abbrev pub family_of : List Object → List Value → Family
-family_of h [] = family.Integers
-family_of h (v ∷ vs) = first_family (value_family h v) (family_of h vs)
 
 abbrev pub family_row : Family → Op → List Object → List Value → Doing
 family_row family.Classes o h args = class_row o h args
@@ -64,23 +37,10 @@ family_row family.Integers o h args = ends (other_row o h args)
 abbrev pub by_family : Op → List Object → List Value → Doing
 by_family o h args = family_row (family_of h args) o h args
 
--- the family of the first, and of the second of two
-abbrev pub family_at_first : List Object → List Value → Family
-family_at_first h [] = family.Integers
-family_at_first h (v ∷ vs) = value_family h v
-
-abbrev pub family_at_second : List Object → List Value → Family
-family_at_second h [] = family.Integers
-family_at_second h (v ∷ vs) = family_at_first h vs
-
 -- only what has methods of its own decides its truth by them
 abbrev pub truth_of : Family → Op → List Object → List Value → Doing
 truth_of family.Classes o h args = class_row o h args
 truth_of f o h args = ends (other_row o h args)
-
-abbrev pub calling : Op → World → List Value → Doing
-calling op.Call w args = ends (call_row w.heap args)
-calling o w args = nothing
 
 pub data Group : Type 0 where
   Names : Group
@@ -170,7 +130,7 @@ group op.Func = Calling
 group op.Call = Calling
 group op.CallX = Calling
 
--- what an operation does; a row that isn't there yet is the stop Unbuilt
+-- what an operation does that calls nothing; a row that isn't there yet is the stop Unbuilt
 abbrev pub row_of : Group → Op → World → List Value → Doing
 row_of Names o w args = names o w args
 row_of Spaces o w args = spaces o w args
@@ -182,10 +142,37 @@ row_of Comparing o w args = ends (other_row o w.heap args)
 row_of Testing o w args = truth_of (family_at_first w.heap args) o w.heap args
 row_of Accessing o w args = family_row (family_at_first w.heap args) o w.heap args
 row_of Containing o w args = family_row (family_at_second w.heap args) o w.heap args
-row_of Calling o w args = calling o w args
+row_of Calling o w args = nothing
 
+-- a built-in of a family is called
+abbrev pub builtin_call : Family → List Header → List Object → List ℕ → Value → List Value → NameList → Doing
+builtin_call family.Classes headers h name receiver args names = class_call h name receiver args names
+builtin_call family.Dicts headers h name receiver args names = dict_call h name receiver args names
+builtin_call family.Sequences headers h name receiver args names = sequence_call h name receiver args names
+builtin_call family.Texts headers h name receiver args names = text_builtin headers h name receiver args names
+builtin_call family.Integers headers h name receiver args names = nothing
+
+abbrev pub builtin_called : Family → List Header → List Object → Option Object → List Value → NameList → Doing
+builtin_called f headers h o args names = builtin_call f headers h (builtin_name o) (builtin_receiver o) args names
+
+abbrev pub routed : Route → Op → World → List Value → Doing
+routed (Operation p) o w args = row_of (group p) p w (given_args o w.heap args)
+routed (BuiltIn f) o w args = builtin_called f w.codes w.heap (object_of w.heap (callee args)) (given_args o w.heap args) (given_names o w.heap args)
+routed Itself o w args = call_row o w.codes w.heap args
+
+abbrev pub calling : Op → World → List Value → Doing
+calling op.Func w args = call_row op.Func w.codes w.heap args
+calling op.Call w (f ∷ args) = routed (route op.Call w.heap (f ∷ args)) op.Call w (f ∷ args)
+calling op.CallX w (f ∷ list ∷ dict ∷ []) = routed (route op.CallX w.heap (f ∷ list ∷ dict ∷ [])) op.CallX w (f ∷ list ∷ dict ∷ [])
+calling o w args = nothing
+
+abbrev pub doing_of : Group → Op → World → List Value → Doing
+doing_of Calling o w args = calling o w args
+doing_of g o w args = row_of g o w args
+
+-- what an operation does
 abbrev pub doing : Op → World → List Value → Doing
-doing o w args = row_of (group o) o w args
+doing o w args = doing_of (group o) o w args
 
 -- and a function that it asks is bound
 abbrev pub row : Op → World → List Value → Answer

@@ -2,6 +2,7 @@
 use Rattle.std.specs.Prelude.{ℕ, pos, List, [], ◌∷◌, codes, if◌then◌else◌}
 use Rattle.std.specs.Str.{bytes_eq}
 use Rattle.nu_text.specs.Characters.{characters}
+use Rattle.nu_value.specs.declared.header.Header.{Header}
 use Rattle.nu_value.specs.declared.object.Object.{Object}
 use Rattle.nu_value.specs.declared.value.Value.{Value}
 use Rattle.nu_value.specs.declared.value.Value.TheVariants as value
@@ -11,7 +12,7 @@ use Rattle.op_forms.specs.Answers.{unbuilt}
 use Rattle.op_forms.specs.Doing.{Doing, nothing, ends}
 use Rattle.op_rules.specs.Items.{no_len}
 use Rattle.op_rules.specs.Numerals.{int_of, ord_of, chr_of}
-use Rattle.op_rules.specs.Quoting.{quote_of}
+use Rattle.op_rules.specs.Quoting.{quote_of, show_call}
 use Rattle.op_rules.specs.TextMethods.{give_number, text_method}
 
 -- how many characters a text has
@@ -42,3 +43,9 @@ called_on h name other args = ends (text_native h name args)
 abbrev pub text_call : List Object → List ℕ → Value → List Value → NameList → Doing
 text_call h name receiver args [] = called_on h name receiver args
 text_call h name receiver args names = nothing
+
+-- a native that shows values needs the names of the program's functions
+abbrev pub text_builtin : List Header → List Object → List ℕ → Value → List Value → NameList → Doing
+text_builtin headers h name value.Unset args [] =
+    if bytes_eq name (codes "_nu_text") then ends (show_call headers h args) else text_call h name value.Unset args []
+text_builtin headers h name receiver args names = text_call h name receiver args names

@@ -4,6 +4,8 @@
 mod arithmetic;
 mod asking;
 mod attribute_names;
+mod binding;
+mod callees;
 mod changes;
 mod family;
 mod first_objects;
@@ -19,6 +21,8 @@ pub use attribute_names::{
     is_dict_method, is_generator_method, is_list_method, is_text_method, is_tuple_method,
     is_unwritten,
 };
+pub use binding::{Bound, Named};
+pub use callees::{Method, Route};
 pub use changes::{bind_in, unbind_in};
 pub use family::Family;
 pub use first_objects::{CLASS_NAMES, NATIVE_FUNCTIONS, first_heap};

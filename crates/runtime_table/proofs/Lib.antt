@@ -1,1 +1,3 @@
 mod Keywords
+mod Begun
+mod Placed

@@ -1,6 +1,6 @@
 //! Which arguments fit an operation.
 
-ghost use Rattle.std.specs.Prelude.{◌≡◌, length, slice_get, option_copied};
+ghost use Rattle.std.specs.Prelude.{◌≡◌, length, slice_get};
 ghost use Rattle.nu_value.specs.Same.{number_of, object_of};
 ghost use Rattle.nu_value.specs.View.{is_text};
 ghost use Rattle.op_forms.specs.Fits as spec;
@@ -8,18 +8,9 @@ ghost use Rattle.runtime_table.specs.Keywords.{text_at};
 ghost use Rattle.std.specs.List.{list_all};
 
 use nu_text::is_built_in_name;
-use nu_value::{Heap, Object, Pairs, Value};
+use nu_value::{Object, Pairs, Value};
 use op_forms::{ArgumentKind, Op, World};
-
-/// The object that a value is.
-pub fn object_of<'a>(heap: &'a Heap, value: &Value) -> Option<&'a Object>
-    ensures { option_copied result ≡ object_of heap.now value.now }
-{
-    match value {
-        Value::Obj(number) => heap.get(*number),
-        _ => None,
-    }
-}
+use rt_call::object_of;
 
 fn is_text(value: &Value) -> bool
     ensures { result ≡ is_text value.now }

@@ -11,11 +11,11 @@ ghost use Rattle.op_forms.specs.Answers as answers;
 ghost use Rattle.op_forms.specs.Doing.{Did, DidIn};
 ghost use Rattle.op_forms.specs.Sound.{AfterIn, EndIn, IsIn, Sound};
 
-use crate::arguments::object_of;
 use nu_run::StopKind;
-use nu_value::{Heap, Integer, Items, Object, Value};
+use nu_value::{Heap, Integer, Object, Value};
 use op_forms::{After, OpEnd, World};
 use op_rules::{finishing_keeps_sound, raised};
+use rt_call::{copied, object_of};
 use std::alloc::{AllocError, Global};
 
 const TYPE_ERROR: u64 = 35;
@@ -69,17 +69,6 @@ fn made(alloc: Global, made: Value, value: &Value) -> Result<OpEnd, AllocError>
     }
 }
 
-// The same values in a list of their own.
-fn copied(alloc: Global, values: &[Value]) -> Result<Items, AllocError>
-    ensures { IfOk result (λ items. items ≡ values.now) }
-{
-    let mut items = Items::new(alloc);
-    for value in values {
-        items.push(value.copy()?)?;
-    }
-    Ok(items)
-}
-
 fn tuple(alloc: Global, heap: &mut Heap, value: &Value) -> Result<OpEnd, AllocError>
     ensures { IfOk result (λ e. Did (spec.tuple_after heap.old (object_of heap.old value.now)) heap.old heap.new e) }
 {
@@ -91,6 +80,20 @@ fn tuple(alloc: Global, heap: &mut Heap, value: &Value) -> Result<OpEnd, AllocEr
     Ok(OpEnd::Give(Value::Obj(number)))
 }
 
+/// What becomes of the value of a function, where no list is asked for.
+pub fn value_after(alloc: Global, after: After, value: Value) -> Result<OpEnd, AllocError>
+    ensures { IfOk result (λ e. e ≡ spec.value_after after value) }
+{
+    match after {
+        After::Plain => Ok(OpEnd::Give(value)),
+        After::Truth => truth(alloc, &value),
+        After::Some => some(alloc, &value),
+        After::Length => length(alloc, &value),
+        After::Made(new) => made(alloc, new, &value),
+        After::Join(_) | After::Tuple | After::Report(_) => Ok(OpEnd::Stop(StopKind::Unbuilt)),
+    }
+}
+
 fn finished(
     alloc: Global,
     world: &mut World,
@@ -100,13 +103,8 @@ fn finished(
     ensures { IfOk result (λ e. DidIn (spec.finishing after world.old.heap value) world.old world.new e) }
 {
     match after {
-        After::Plain => Ok(OpEnd::Give(value)),
-        After::Truth => truth(alloc, &value),
-        After::Some => some(alloc, &value),
-        After::Length => length(alloc, &value),
-        After::Made(new) => made(alloc, new, &value),
         After::Tuple => tuple(alloc, &mut world.heap, &value),
-        After::Join(_) | After::Report(_) => Ok(OpEnd::Stop(StopKind::Unbuilt)),
+        after => value_after(alloc, after, value),
     }
 }
 

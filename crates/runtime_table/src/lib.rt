@@ -2,13 +2,17 @@
 #![tactic(auto)]
 
 mod arguments;
-mod calls;
+mod asking;
+mod calling;
 mod finishing;
 mod named;
 mod names;
+mod quick;
+mod routes;
 mod table;
 
 pub use arguments::fits;
 pub use finishing::finish;
 pub use op_forms::World;
+pub use quick::quick_call;
 pub use table::apply;

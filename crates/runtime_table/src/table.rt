@@ -7,17 +7,19 @@ ghost use Rattle.op_forms.specs.Answers.{after};
 ghost use Rattle.op_forms.specs.Doing.{DidIn, ends};
 ghost use Rattle.op_forms.specs.Fits.{fits};
 ghost use Rattle.op_forms.specs.Sound.{Sound, EndIn};
-ghost use Rattle.op_rules.specs.Binding.{bound_end};
 ghost use Rattle.op_rules.specs.Access.{other_row};
 ghost use Rattle.op_rules.specs.Classes as classes;
+ghost use Rattle.op_rules.specs.Families as families;
 ghost use Rattle.op_rules.specs.Table as spec;
 
-use crate::calls::call_row;
+use crate::asking::bound;
+use crate::calling::{call, callx};
 use crate::named::{names_row, spaces_row};
 use nu_run::StopKind;
 use nu_value::{Heap, Object, Value};
 use op_forms::{Op, OpEnd, World};
 use op_rules::{Family, rows_keep_sound};
+use rt_call::apply_call;
 use rt_class::{apply_attribute, apply_class};
 use rt_dict::apply_dict;
 use rt_int::apply_int;
@@ -25,8 +27,8 @@ use rt_seq::apply_seq;
 use rt_text::apply_text;
 use std::alloc::{AllocError, Global};
 
-fn value_family(heap: &Heap, value: &Value) -> Family
-    ensures { result ≡ spec.value_family heap.now value.now }
+pub fn value_family(heap: &Heap, value: &Value) -> Family
+    ensures { result ≡ families.value_family heap.now value.now }
 {
     let number = match value {
         Value::Str(_) => return Family::Texts,
@@ -44,7 +46,7 @@ fn value_family(heap: &Heap, value: &Value) -> Family
 }
 
 fn first_family(one: Family, other: Family) -> Family
-    ensures { result ≡ spec.first_family one other }
+    ensures { result ≡ families.first_family one other }
 {
     match (one, other) {
         (Family::Classes, _) | (_, Family::Classes) => Family::Classes,
@@ -56,7 +58,7 @@ fn first_family(one: Family, other: Family) -> Family
 }
 
 fn family_of(heap: &Heap, args: &[Value]) -> Family
-    ensures { result ≡ spec.family_of heap.now args.now }
+    ensures { result ≡ families.family_of heap.now args.now }
 {
     match args {
         [] => Family::Integers,
@@ -66,7 +68,7 @@ fn family_of(heap: &Heap, args: &[Value]) -> Family
 
 // The family of the first operand.
 fn family_at_first(heap: &Heap, args: &[Value]) -> Family
-    ensures { result ≡ spec.family_at_first heap.now args.now }
+    ensures { result ≡ families.family_at_first heap.now args.now }
 {
     match args {
         [] => Family::Integers,
@@ -76,7 +78,7 @@ fn family_at_first(heap: &Heap, args: &[Value]) -> Family
 
 // The family of the second operand.
 fn family_at_second(heap: &Heap, args: &[Value]) -> Family
-    ensures { result ≡ spec.family_at_second heap.now args.now }
+    ensures { result ≡ families.family_at_second heap.now args.now }
 {
     match args {
         [] => Family::Integers,
@@ -137,22 +139,7 @@ fn table_row(alloc: Global, op: Op, world: &mut World, args: &[Value]) -> Result
     ensures world { OnOk result (world.new ≡ after world.old (spec.row op world.old args.now)) }
 {
     let end = done(alloc, op, world, args)?;
-    Ok(bound(world, end))
-}
-
-// A function that is asked is bound.
-fn bound(world: &mut World, end: OpEnd) -> OpEnd
-    ensures { DidIn (bound_end world.old end) world.old world.new result }
-{
-    match end {
-        OpEnd::Ask(_, _, _, _) | OpEnd::Resume(_, _) | OpEnd::Line => OpEnd::Stop(
-            StopKind::Unbuilt,
-        ),
-        OpEnd::Give(value) => OpEnd::Give(value),
-        OpEnd::Raise(number, args) => OpEnd::Raise(number, args),
-        OpEnd::Put(text) => OpEnd::Put(text),
-        OpEnd::Stop(kind) => OpEnd::Stop(kind),
-    }
+    bound(alloc, world, end)
 }
 
 /// What isn't there yet.
@@ -170,7 +157,7 @@ fn comparing(alloc: Global, op: Op, world: &mut World, args: &[Value]) -> Result
 
 // Whether a value is true.
 fn testing(alloc: Global, op: Op, world: &mut World, args: &[Value]) -> Result<OpEnd, AllocError>
-    ensures { IfOk result (λ e. DidIn (spec.truth_of (spec.family_at_first world.old.heap args.now) op world.old.heap args.now) world.old world.new e) }
+    ensures { IfOk result (λ e. DidIn (spec.truth_of (families.family_at_first world.old.heap args.now) op world.old.heap args.now) world.old world.new e) }
 {
     match family_at_first(&world.heap, args) {
         Family::Classes => family_row(alloc, Family::Classes, op, world, args),
@@ -180,7 +167,7 @@ fn testing(alloc: Global, op: Op, world: &mut World, args: &[Value]) -> Result<O
 
 // An operation that goes by the kind of its first operand.
 fn accessing(alloc: Global, op: Op, world: &mut World, args: &[Value]) -> Result<OpEnd, AllocError>
-    ensures { IfOk result (λ e. DidIn (spec.family_row (spec.family_at_first world.old.heap args.now) op world.old.heap args.now) world.old world.new e) }
+    ensures { IfOk result (λ e. DidIn (spec.family_row (families.family_at_first world.old.heap args.now) op world.old.heap args.now) world.old world.new e) }
 {
     let family = family_at_first(&world.heap, args);
     family_row(alloc, family, op, world, args)
@@ -188,24 +175,15 @@ fn accessing(alloc: Global, op: Op, world: &mut World, args: &[Value]) -> Result
 
 // An operation that goes by the kind of its second operand.
 fn containing(alloc: Global, op: Op, world: &mut World, args: &[Value]) -> Result<OpEnd, AllocError>
-    ensures { IfOk result (λ e. DidIn (spec.family_row (spec.family_at_second world.old.heap args.now) op world.old.heap args.now) world.old world.new e) }
+    ensures { IfOk result (λ e. DidIn (spec.family_row (families.family_at_second world.old.heap args.now) op world.old.heap args.now) world.old world.new e) }
 {
     let family = family_at_second(&world.heap, args);
     family_row(alloc, family, op, world, args)
 }
 
-fn calling(alloc: Global, op: Op, world: &mut World, args: &[Value]) -> Result<OpEnd, AllocError>
-    ensures { IfOk result (λ e. DidIn (spec.calling op world.old args.now) world.old world.new e) }
-{
-    match op {
-        Op::Call => call_row(alloc, &world.heap, args),
-        _ => unbuilt(),
-    }
-}
-
-// What the operation does before a function that it asks is bound.
-fn done(alloc: Global, op: Op, world: &mut World, args: &[Value]) -> Result<OpEnd, AllocError>
-    ensures { IfOk result (λ e. DidIn (spec.doing op world.old args.now) world.old world.new e) }
+/// What an operation does that calls nothing.
+pub fn row_of(alloc: Global, op: Op, world: &mut World, args: &[Value]) -> Result<OpEnd, AllocError>
+    ensures { IfOk result (λ e. DidIn (spec.row_of (spec.group op) op world.old args.now) world.old world.new e) }
 {
     match op {
         Op::Global
@@ -252,7 +230,7 @@ fn done(alloc: Global, op: Op, world: &mut World, args: &[Value]) -> Result<OpEn
             alloc, op, world, args,
         ),
         Op::In => containing(alloc, op, world, args),
-        Op::Func | Op::Call | Op::CallX => calling(alloc, op, world, args),
+        Op::Func | Op::Call | Op::CallX => unbuilt(),
         Op::Add
         | Op::Sub
         | Op::Mul
@@ -273,5 +251,17 @@ fn done(alloc: Global, op: Op, world: &mut World, args: &[Value]) -> Result<OpEn
         | Op::Le
         | Op::Gt
         | Op::Ge => by_family(alloc, op, world, args),
+    }
+}
+
+// What the operation does before a function that it asks is bound.
+fn done(alloc: Global, op: Op, world: &mut World, args: &[Value]) -> Result<OpEnd, AllocError>
+    ensures { IfOk result (λ e. DidIn (spec.doing op world.old args.now) world.old world.new e) }
+{
+    match op {
+        Op::Func => apply_call(alloc, Op::Func, &mut world.heap, &world.codes, args),
+        Op::Call => call(alloc, world, args),
+        Op::CallX => callx(alloc, world, args),
+        _ => row_of(alloc, op, world, args),
     }
 }

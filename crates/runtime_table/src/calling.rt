@@ -1,0 +1,118 @@
+//! Calls: what does their work.
+
+ghost use Rattle.std.specs.Prelude.{◌≡◌, IfOk, option_copied};
+ghost use Rattle.nu_value.specs.Same as same;
+ghost use Rattle.op_forms.specs.declared.op.Op.TheVariants as op;
+ghost use Rattle.op_forms.specs.Doing.{Did, DidIn};
+ghost use Rattle.op_rules.specs.Routes as routes;
+ghost use Rattle.op_rules.specs.Table as spec;
+
+use crate::routes::{is_empty_dict, value_route};
+use crate::table::{row_of, unbuilt};
+use nu_run::StopKind;
+use nu_text::RcStr;
+use nu_value::{Heap, Names, Object, Value};
+use op_forms::{Op, OpEnd, World};
+use op_rules::{Family, Route};
+use rt_call::{apply_call, call_value, items_of, names_of, object_of};
+use std::alloc::{AllocError, Global};
+
+// The name of a built-in; a class is one by its own name.
+fn builtin_name(alloc: Global, object: Option<&Object>) -> Result<RcStr, AllocError>
+    ensures { IfOk result (λ name. name ≡ routes.builtin_name (option_copied object.entry)) }
+{
+    match object {
+        Some(Object::Builtin { name, .. }) => name.share(),
+        Some(Object::Class { name, .. }) => name.share(),
+        _ => RcStr::from_str(alloc, ""),
+    }
+}
+
+fn builtin_receiver(object: Option<&Object>) -> Result<Value, AllocError>
+    ensures { IfOk result (λ v. v ≡ routes.builtin_receiver (option_copied object.entry)) }
+{
+    match object {
+        Some(Object::Builtin { receiver, .. }) => receiver.copy(),
+        _ => Ok(Value::Unset),
+    }
+}
+
+// A built-in of a family is called.
+fn builtin_call(
+    _alloc: Global,
+    _family: Family,
+    _heap: &mut Heap,
+    _name: &str,
+    _receiver: &Value,
+    _args: &[Value],
+    _names: &Names,
+) -> Result<OpEnd, AllocError>
+    ensures { IfOk result (λ e. Did (spec.builtin_call _family _heap.old _name.now _receiver.now _args.now _names.now) _heap.old _heap.new e) }
+{
+    Ok(OpEnd::Stop(StopKind::Unbuilt))
+}
+
+fn builtin_called(
+    alloc: Global,
+    family: Family,
+    world: &mut World,
+    function: &Value,
+    args: &[Value],
+    names: &Names,
+) -> Result<OpEnd, AllocError>
+    ensures { IfOk result (λ e. DidIn (spec.builtin_called family world.old.heap (same.object_of world.old.heap function.now) args.now names.now) world.old world.new e) }
+{
+    let object = object_of(&world.heap, function);
+    let name = builtin_name(alloc, object)?;
+    let receiver = builtin_receiver(object)?;
+    builtin_call(
+        alloc,
+        family,
+        &mut world.heap,
+        name.as_str(),
+        &receiver,
+        args,
+        names,
+    )
+}
+
+/// A call with arguments.
+pub fn call(alloc: Global, world: &mut World, args: &[Value]) -> Result<OpEnd, AllocError>
+    ensures { IfOk result (λ e. DidIn (spec.calling op.Call world.old args.now) world.old world.new e) }
+{
+    let [function, given @ ..] = args else {
+        return unbuilt();
+    };
+    match value_route(&world.heap, function, true, given) {
+        Route::Operation(op) => row_of(alloc, op, world, given),
+        Route::BuiltIn(family) => {
+            let names = Names::new(alloc);
+            builtin_called(alloc, family, world, function, given, &names)
+        }
+        Route::Itself => apply_call(alloc, Op::Call, &mut world.heap, &world.codes, args),
+    }
+}
+
+/// A call with a list of arguments and a dict of keywords.
+pub fn callx(alloc: Global, world: &mut World, args: &[Value]) -> Result<OpEnd, AllocError>
+    ensures { IfOk result (λ e. DidIn (spec.calling op.CallX world.old args.now) world.old world.new e) }
+{
+    let [function, list, dict] = args else {
+        return unbuilt();
+    };
+    let items = items_of(alloc, &world.heap, list)?;
+    let names = names_of(alloc, &world.heap, dict)?;
+    let plain = is_empty_dict(&world.heap, dict);
+    match value_route(&world.heap, function, plain, items.as_slice()) {
+        Route::Operation(op) => row_of(alloc, op, world, items.as_slice()),
+        Route::BuiltIn(family) => builtin_called(
+            alloc,
+            family,
+            world,
+            function,
+            items.as_slice(),
+            &names,
+        ),
+        Route::Itself => call_value(alloc, &mut world.heap, function, items, names),
+    }
+}
