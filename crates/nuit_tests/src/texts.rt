@@ -16,7 +16,7 @@ nu nu_code_0(nu_frame *fr)
 
 /// Bodies: a loop without end; one that passes by zero; exceptions, one of them caught and raised again; stops; a name that is not
 /// bound; a value that the module returns; statements of which nothing is said; a line that can't be written behind one that was; a
-/// traceback, which is one put.
+/// traceback, which is one put; lists and tuples, with their order; texts; a class, its instance and an exception.
 const BODIES: &str = r#"000 run t.py 8
   nu r0, r1;
 L1:;
@@ -299,6 +299,164 @@ L0:;
 Traceback (most recent call last):
   File "t.py", line 1, in <module>
 ZeroDivisionError
+====
+000 run t.py 1000
+  nu r0, r1, r2, r3, r4, r5, r6, r7, r8, r9;
+  r0 = nu_list(fr, 1, nu_int("3"), nu_int("1"), nu_int("2")); if (nu_bad(fr)) goto L0;
+  r1 = nu_push(fr, 1, r0, nu_int("5")); if (nu_bad(fr)) goto L0;
+  r1 = nu_setindex(fr, 1, r0, nu_int("0"), nu_int("4")); if (nu_bad(fr)) goto L0;
+  r1 = nu_index(fr, 1, r0, nu_int("-1")); if (nu_bad(fr)) goto L0;
+  r9 = nu_global(fr, 1, "print"); if (nu_bad(fr)) goto L0;
+  r9 = nu_call(fr, 1, r9, r1); if (nu_bad(fr)) goto L0;
+  r1 = nu_slice(fr, 1, r0, nu_none, nu_none, nu_int("-2")); if (nu_bad(fr)) goto L0;
+  r2 = nu_attr(fr, 1, r0, "append"); if (nu_bad(fr)) goto L0;
+  r2 = nu_call(fr, 1, r2, nu_int("9")); if (nu_bad(fr)) goto L0;
+  r2 = nu_attr(fr, 1, r0, "pop"); if (nu_bad(fr)) goto L0;
+  r2 = nu_call(fr, 1, r2, nu_int("0")); if (nu_bad(fr)) goto L0;
+  r9 = nu_global(fr, 1, "print"); if (nu_bad(fr)) goto L0;
+  r9 = nu_call(fr, 1, r9, r2); if (nu_bad(fr)) goto L0;
+  r3 = nu_tuple(fr, 1, r1, r0); if (nu_bad(fr)) goto L0;
+  r3 = nu_add(fr, 1, r3, r3); if (nu_bad(fr)) goto L0;
+  r2 = nu_native(fr, 1, "len"); if (nu_bad(fr)) goto L0;
+  r2 = nu_call(fr, 1, r2, r3); if (nu_bad(fr)) goto L0;
+  r9 = nu_global(fr, 1, "print"); if (nu_bad(fr)) goto L0;
+  r9 = nu_call(fr, 1, r9, r2); if (nu_bad(fr)) goto L0;
+  r2 = nu_global(fr, 1, "_nu_order"); if (nu_bad(fr)) goto L0;
+  r4 = nu_call(fr, 1, r2, r0, nu_false); if (nu_bad(fr)) goto L0;
+  r5 = nu_iter(fr, 1, r4); if (nu_bad(fr)) goto L0;
+L1:;
+  r6 = nu_next(fr, 1, r5); if (nu_bad(fr)) goto L2;
+  r9 = nu_global(fr, 1, "print"); if (nu_bad(fr)) goto L0;
+  r9 = nu_call(fr, 1, r9, r6); if (nu_bad(fr)) goto L0;
+  goto L1;
+L2:;
+  r7 = nu_caught(fr);
+  r7 = nu_classof(fr, 1, r7); if (nu_bad(fr)) goto L0;
+  r7 = nu_attr(fr, 1, r7, "__name__"); if (nu_bad(fr)) goto L0;
+  r9 = nu_global(fr, 1, "print"); if (nu_bad(fr)) goto L0;
+  r9 = nu_call(fr, 1, r9, r7); if (nu_bad(fr)) goto L0;
+  r6 = nu_delindex(fr, 1, r0, nu_int("0")); if (nu_bad(fr)) goto L0;
+  r6 = nu_in(fr, 1, nu_int("9"), r0); if (nu_bad(fr)) goto L0;
+  r9 = nu_global(fr, 1, "print"); if (nu_bad(fr)) goto L0;
+  r9 = nu_call(fr, 1, r9, r6); if (nu_bad(fr)) goto L0;
+  r6 = nu_lt(fr, 1, r1, r0); if (nu_bad(fr)) goto L0;
+  r9 = nu_global(fr, 1, "print"); if (nu_bad(fr)) goto L0;
+  r9 = nu_call(fr, 1, r9, r6); if (nu_bad(fr)) goto L0;
+  r6 = nu_eq(fr, 1, r0, r0); if (nu_bad(fr)) goto L0;
+  r9 = nu_global(fr, 1, "print"); if (nu_bad(fr)) goto L0;
+  r9 = nu_call(fr, 1, r9, r6); if (nu_bad(fr)) goto L0;
+  return nu_end(fr);
+L0:;
+  return nu_fail(fr);
+----
+0
+5
+4
+4
+0
+1
+2
+3
+StopIteration
+True
+False
+True
+----
+====
+000 run t.py 1000
+  nu r0, r1, r2, r3, r4, r5, r6, r7, r8, r9;
+  r0 = nu_str("a,b,,c");
+  r1 = nu_attr(fr, 1, r0, "split"); if (nu_bad(fr)) goto L0;
+  r1 = nu_call(fr, 1, r1, nu_str(",")); if (nu_bad(fr)) goto L0;
+  r2 = nu_str("-");
+  r2 = nu_attr(fr, 1, r2, "join"); if (nu_bad(fr)) goto L0;
+  r2 = nu_call(fr, 1, r2, r1); if (nu_bad(fr)) goto L0;
+  r9 = nu_global(fr, 1, "print"); if (nu_bad(fr)) goto L0;
+  r9 = nu_call(fr, 1, r9, r2); if (nu_bad(fr)) goto L0;
+  r3 = nu_slice(fr, 1, r0, nu_int("1"), nu_none, nu_int("2")); if (nu_bad(fr)) goto L0;
+  r9 = nu_global(fr, 1, "print"); if (nu_bad(fr)) goto L0;
+  r9 = nu_call(fr, 1, r9, r3); if (nu_bad(fr)) goto L0;
+  r3 = nu_attr(fr, 1, r0, "replace"); if (nu_bad(fr)) goto L0;
+  r3 = nu_call(fr, 1, r3, nu_str(","), nu_str("\303\251")); if (nu_bad(fr)) goto L0;
+  r9 = nu_global(fr, 1, "print"); if (nu_bad(fr)) goto L0;
+  r9 = nu_call(fr, 1, r9, r3); if (nu_bad(fr)) goto L0;
+  r4 = nu_global(fr, 1, "_nu_quote"); if (nu_bad(fr)) goto L0;
+  r4 = nu_call(fr, 1, r4, nu_str("a\012b")); if (nu_bad(fr)) goto L0;
+  r9 = nu_global(fr, 1, "print"); if (nu_bad(fr)) goto L0;
+  r9 = nu_call(fr, 1, r9, r4); if (nu_bad(fr)) goto L0;
+  r4 = nu_global(fr, 1, "_nu_text"); if (nu_bad(fr)) goto L0;
+  r4 = nu_call(fr, 1, r4, nu_int("-7")); if (nu_bad(fr)) goto L0;
+  r9 = nu_global(fr, 1, "print"); if (nu_bad(fr)) goto L0;
+  r9 = nu_call(fr, 1, r9, r4); if (nu_bad(fr)) goto L0;
+  r4 = nu_native(fr, 1, "int"); if (nu_bad(fr)) goto L0;
+  r4 = nu_call(fr, 1, r4, nu_str(" 1_0 ")); if (nu_bad(fr)) goto L0;
+  r9 = nu_global(fr, 1, "print"); if (nu_bad(fr)) goto L0;
+  r9 = nu_call(fr, 1, r9, r4); if (nu_bad(fr)) goto L0;
+  r4 = nu_global(fr, 1, "chr"); if (nu_bad(fr)) goto L0;
+  r4 = nu_call(fr, 1, r4, nu_int("8364")); if (nu_bad(fr)) goto L0;
+  r9 = nu_global(fr, 1, "print"); if (nu_bad(fr)) goto L0;
+  r9 = nu_call(fr, 1, r9, r4); if (nu_bad(fr)) goto L0;
+  return nu_end(fr);
+L0:;
+  return nu_fail(fr);
+----
+0
+a-b--c
+,,c
+aébééc
+'a\nb'
+-7
+10
+€
+----
+====
+000 run t.py 1000
+  nu r0, r1, r2, r3, r4, r5, r6, r7, r8, r9;
+  r0 = nu_space(fr, 1); if (nu_bad(fr)) goto L0;
+  r1 = nu_spaceset(fr, 1, r0, "kind", nu_str("animal")); if (nu_bad(fr)) goto L0;
+  r1 = nu_global(fr, 1, "object"); if (nu_bad(fr)) goto L0;
+  r1 = nu_class(fr, 1, "Dog", r1, r0); if (nu_bad(fr)) goto L0;
+  r2 = nu_call(fr, 1, r1); if (nu_bad(fr)) goto L0;
+  r3 = nu_setattr(fr, 1, r2, "name", nu_str("Rex")); if (nu_bad(fr)) goto L0;
+  r3 = nu_attr(fr, 1, r2, "name"); if (nu_bad(fr)) goto L0;
+  r9 = nu_global(fr, 1, "print"); if (nu_bad(fr)) goto L0;
+  r9 = nu_call(fr, 1, r9, r3); if (nu_bad(fr)) goto L0;
+  r3 = nu_attr(fr, 1, r2, "kind"); if (nu_bad(fr)) goto L0;
+  r9 = nu_global(fr, 1, "print"); if (nu_bad(fr)) goto L0;
+  r9 = nu_call(fr, 1, r9, r3); if (nu_bad(fr)) goto L0;
+  r3 = nu_global(fr, 1, "isinstance"); if (nu_bad(fr)) goto L0;
+  r3 = nu_call(fr, 1, r3, r2, r1); if (nu_bad(fr)) goto L0;
+  r9 = nu_global(fr, 1, "print"); if (nu_bad(fr)) goto L0;
+  r9 = nu_call(fr, 1, r9, r3); if (nu_bad(fr)) goto L0;
+  r3 = nu_global(fr, 1, "ValueError"); if (nu_bad(fr)) goto L0;
+  r4 = nu_call(fr, 1, r3, nu_str("wrong")); if (nu_bad(fr)) goto L0;
+  r5 = nu_exc(fr, 1, r4); if (nu_bad(fr)) goto L0;
+  r6 = nu_raise(fr, 1, r5); if (nu_bad(fr)) goto L2;
+L2:;
+  r7 = nu_caught(fr);
+  r6 = nu_match(fr, 1, r7, r3); if (nu_bad(fr)) goto L0;
+  r9 = nu_global(fr, 1, "print"); if (nu_bad(fr)) goto L0;
+  r9 = nu_call(fr, 1, r9, r6); if (nu_bad(fr)) goto L0;
+  r6 = nu_attr(fr, 1, r7, "args"); if (nu_bad(fr)) goto L0;
+  r6 = nu_index(fr, 1, r6, nu_int("0")); if (nu_bad(fr)) goto L0;
+  r9 = nu_global(fr, 1, "print"); if (nu_bad(fr)) goto L0;
+  r9 = nu_call(fr, 1, r9, r6); if (nu_bad(fr)) goto L0;
+  r6 = nu_delattr(fr, 1, r2, "name"); if (nu_bad(fr)) goto L0;
+  r6 = nu_attr(fr, 1, r2, "name"); if (nu_bad(fr)) goto L0;
+  return nu_end(fr);
+L0:;
+  return nu_fail(fr);
+----
+1
+Rex
+animal
+True
+True
+wrong
+----
+Traceback (most recent call last):
+  File "t.py", line 1, in <module>
+AttributeError
 "#;
 
 #[test]
