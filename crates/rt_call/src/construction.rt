@@ -6,7 +6,8 @@ ghost use Rattle.op_rules.specs.Construction as spec;
 ghost use Rattle.op_rules.specs.Kinds as kinds;
 
 use crate::classes::{is_under, method_in};
-use nu_run::StopKind;
+use crate::collecting::copied;
+use crate::objects::unbuilt;
 use nu_value::{Heap, Integer, Items, Names, Object, Value};
 use op_forms::{After, OpEnd};
 use op_rules::{Method, ask, kind_name, raised};
@@ -107,7 +108,7 @@ fn exception_made(
     if names.as_slice().is_empty() {
         make_of(alloc, heap, class, args)
     } else if takes_keywords(heap, class) {
-        Ok(OpEnd::Stop(StopKind::Unbuilt))
+        unbuilt()
     } else {
         takes_none(alloc, heap, class)
     }
@@ -157,19 +158,16 @@ fn natively_made(
     if names.as_slice().is_empty() && is_exception_class(heap, class) {
         make_of(alloc, heap, class, args)
     } else {
-        Ok(OpEnd::Stop(StopKind::Unbuilt))
+        unbuilt()
     }
 }
 
-// The same values in a list of their own, behind another.
+// A list of its own of a value and those behind it.
 fn with_first(alloc: Global, first: Value, values: &[Value]) -> Result<Items, AllocError>
     ensures { IfOk result (λ items. items ≡ first ∷ values.now) }
 {
-    let mut items = Items::new(alloc);
-    items.push(first)?;
-    for value in values {
-        items.push(value.copy()?)?;
-    }
+    let mut items = copied(alloc, values)?;
+    items.insert(0, first)?;
     Ok(items)
 }
 
@@ -204,7 +202,7 @@ pub fn construct(
         Method::Absent => plainly_made(alloc, heap, class, args, &names),
         Method::Function(function) => made_by_function(alloc, heap, function, class, args, names),
         Method::Native => natively_made(alloc, heap, class, args, &names),
-        Method::Other => Ok(OpEnd::Stop(StopKind::Unbuilt)),
+        Method::Other => unbuilt(),
     }
 }
 
@@ -226,7 +224,7 @@ fn object_row(
     ensures { IfOk result (λ e. Did (spec.object_row heap.old args.now names.now) heap.old heap.new e) }
 {
     if !args.is_empty() || !names.as_slice().is_empty() {
-        return Ok(OpEnd::Stop(StopKind::Unbuilt));
+        return unbuilt();
     }
     make(
         heap,
@@ -266,13 +264,13 @@ fn range_row(
     ensures { IfOk result (λ e. Did (spec.range_row heap.old args.now names.now) heap.old heap.new e) }
 {
     if !names.as_slice().is_empty() {
-        return Ok(OpEnd::Stop(StopKind::Unbuilt));
+        return unbuilt();
     }
     match args {
         [stop] => range_by(alloc, heap, Some(0), stop.number(), Some(1)),
         [start, stop] => range_by(alloc, heap, start.number(), stop.number(), Some(1)),
         [start, stop, step] => range_by(alloc, heap, start.number(), stop.number(), step.number()),
-        _ => Ok(OpEnd::Stop(StopKind::Unbuilt)),
+        _ => unbuilt(),
     }
 }
 
@@ -305,7 +303,7 @@ pub fn native_class(
     } else if class == RANGE {
         range_row(alloc, heap, args.as_slice(), &names)
     } else if is_left_out(class) {
-        Ok(OpEnd::Stop(StopKind::Unbuilt))
+        unbuilt()
     } else {
         not_callable(alloc, heap, &Value::Obj(class))
     }

@@ -21,6 +21,6 @@ pub use calls::call_value;
 pub use collecting::copied;
 pub use functions::bind;
 pub use given::{items_of, names_of};
-pub use objects::object_of;
 pub use laws::each_argument_has_its_parameter;
+pub use objects::object_of;
 pub use op_rules::Bound;
