@@ -1,3 +1,2 @@
-mod Chains
 mod Pairs
 mod Ready

@@ -5,12 +5,13 @@ ghost use Rattle.op_forms.specs.Doing.{Did, makes};
 ghost use Rattle.op_rules.specs.Construction as spec;
 ghost use Rattle.op_rules.specs.Kinds as kinds;
 
-use crate::classes::{is_under, method_in};
+use crate::classes::method_in;
 use crate::collecting::copied;
 use crate::objects::unbuilt;
 use nu_value::{Heap, Integer, Items, Names, Object, Value};
 use op_forms::{After, OpEnd};
 use op_rules::{Method, ask, kind_name, raised};
+use rt_class::is_under;
 use std::alloc::{AllocError, Global};
 
 const OBJECT: u64 = 0;
