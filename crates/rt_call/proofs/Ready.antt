@@ -1,6 +1,6 @@
 -- What a binding that is ready gives to each parameter.
 use Rattle.std.proofs.Common.{◌≡◌, ℕ, zero, suc, ◌+◌, ◌<◌, ◌≤◌, List, [], ◌∷◌, ◌++◌, Option, Some, None, Bool, true, false, refl, sym, ap, subst, ◌∙◌, arith, length}
-use Rattle.std.specs.Prelude.{◌&&◌, ◌||◌, not, codes, if◌then◌else◌, nat_eq, nat_lt, slice_get}
+use Rattle.std.specs.Prelude.{◌&&◌, ◌||◌, not, if◌then◌else◌, nat_eq, nat_lt, slice_get}
 use Rattle.std.specs.Str.{bytes_eq}
 use Rattle.std.proofs.Math.ListN.{drop}
 use Rattle.std.proofs.lemmas.Bool.Decides.{nat_tests}
@@ -18,7 +18,7 @@ use Rattle.op_rules.specs.declared.binding.Named.{Named}
 use Rattle.op_rules.specs.declared.binding.Named.TheVariants.{AtPlace, ByKey, NoName}
 use Rattle.op_rules.specs.declared.binding.Bound.{Bound}
 use Rattle.op_rules.specs.declared.binding.Bound.TheVariants.{Ready, Raise, Stop}
-use Rattle.op_rules.specs.Binding.{ParamList, Call, is_placed, is_star, is_double, one_if, places, has_star, has_double, named_one, named, is_at, is_key, too_many, keyword_error, first_error, keywords_error, default_of, value_if, value_for, Values, All, Missing, and_one, with_one, values_from, left_over, collected, made_by, bound_call, fits_star, bound_values, bound_or, binding}
+use Rattle.op_rules.specs.Binding.{ParamList, Call, is_placed, is_star, is_double, one_if, places, has_star, has_double, named_one, named, too_many, keyword_error, first_error, keywords_error, default_of, value_for, Values, All, Missing, and_one, with_one, values_from, left_over, collected, made_by, bound_call, fits_star, bound_values, bound_or, binding}
 use Rattle.op_rules.proofs.Begun.{Counts, binding_counts, IsError, keywords_err}
 use Rattle.rt_call.specs.Laws.{next_placed, index_of, place_at, GoesTo, Binds, EachArgumentHasItsParameter}
 

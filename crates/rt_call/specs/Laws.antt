@@ -1,5 +1,5 @@
 -- Laws of binding: each parameter gets one value, and each argument goes to one parameter (reference, sections 6.3.4 and 8.7).
-use Rattle.std.specs.Prelude.{◌≡◌, ◌+◌, ◌<◌, ◌≤◌, ℕ, zero, suc, List, [], ◌∷◌, Option, Some, None, Bool, true, false, length, slice_get}
+use Rattle.std.specs.Prelude.{◌≡◌, ◌+◌, ◌<◌, ◌≤◌, ℕ, zero, suc, List, [], ◌∷◌, Some, None, Bool, true, false, length, slice_get}
 use Rattle.std.proofs.Math.ListN.{drop}
 use Rattle.nu_value.specs.declared.header.ParamKind.{ParamKind}
 use Rattle.nu_value.specs.declared.header.ParamKind.TheVariants as param

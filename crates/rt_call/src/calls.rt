@@ -5,7 +5,8 @@ ghost use Rattle.op_forms.specs.Doing.{Did};
 ghost use Rattle.op_rules.specs.Calls as spec;
 
 use crate::classes::method_in;
-use crate::construction::{construct, is_exception_class, native_class, not_callable};
+use crate::construction::{construct, is_exception_class, not_callable};
+use crate::native_classes::native_class;
 use crate::natives::native_called;
 use crate::objects::unbuilt;
 use nu_value::{Heap, Items, Names, Object, Value};

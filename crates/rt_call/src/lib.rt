@@ -12,6 +12,7 @@ mod functions;
 mod given;
 mod keywords;
 mod laws;
+mod native_classes;
 mod natives;
 mod objects;
 mod params;
