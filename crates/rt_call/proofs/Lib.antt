@@ -1,2 +1,3 @@
+mod LeftOver
 mod Pairs
 mod Ready

@@ -20,7 +20,8 @@ use Rattle.op_rules.specs.declared.binding.Bound.{Bound}
 use Rattle.op_rules.specs.declared.binding.Bound.TheVariants.{Ready, Raise, Stop}
 use Rattle.op_rules.specs.Binding.{ParamList, Call, is_placed, is_star, is_double, one_if, places, has_star, has_double, named_one, named, too_many, keyword_error, first_error, keywords_error, default_of, value_for, Values, All, Missing, and_one, with_one, values_from, left_over, collected, made_by, bound_call, fits_star, bound_values, bound_or, binding}
 use Rattle.op_rules.proofs.Begun.{Counts, binding_counts, IsError, keywords_err}
-use Rattle.rt_call.specs.Laws.{next_placed, index_of, place_at, GoesTo, Binds, EachArgumentHasItsParameter}
+use Rattle.rt_call.specs.Laws.{next_placed, index_of, place_at, unnamed, pairs_of, GoesTo, Binds, EachArgumentHasItsParameter}
+use Rattle.rt_call.proofs.LeftOver.{left_pairs}
 
 -- ---- what is ready
 
@@ -329,8 +330,8 @@ second_if : (b : Bool) (t d : Object) → slice_get ((if b then t ∷ [] else []
 second_if true t d = refl
 second_if false t d = refl
 
-dict_made : (c : Call) → has_double c.params ≡ true → slice_get (collected c) (one_if (has_star c.params)) ≡ Some (object.Dict (left_over c.params c.names []))
-dict_made c e = rw e (second_if (has_star c.params) _ _)
+dict_made : (c : Call) → AreDistinct c.names → has_double c.params ≡ true → slice_get (collected c) (one_if (has_star c.params)) ≡ Some (object.Dict (pairs_of (unnamed c.params c.names)))
+dict_made c d e = rw (e, left_pairs c.params c.names d) (second_if (has_star c.params) _ _)
 
 binds : (scope : List ℕ) (c : Call) (values : List Value) → AreDistinct c.names → binding scope c ≡ Ready values → IsReady scope c values → Binds c values (collected c)
 binds scope c values d e r = record {
@@ -344,7 +345,7 @@ binds scope c values d e r = record {
       number_of c values r.given i p at ∙ placed_default c (place_at c.params i) i p is (slice_get_past c.args (place_at c.params i) free) none;
   key_defaulted = λ i name at none. number_of c values r.given i (param.Key, name) at ∙ key_default c (place_at c.params i) i name none;
   star = λ i name at. (number_of c values r.given i (param.Star, name) at, tuple_made c (star_there c.params i name at));
-  double = λ i name at. (number_of c values r.given i (param.Double, name) at, dict_made c (double_there c.params i name at));
+  double = λ i name at. (number_of c values r.given i (param.Double, name) at, dict_made c d (double_there c.params i name at));
 }
 
 pub each_argument : EachArgumentHasItsParameter

@@ -3,15 +3,18 @@ use Rattle.std.specs.Prelude.{◌≡◌, ◌+◌, ◌<◌, ◌≤◌, ℕ, zero,
 use Rattle.std.proofs.Math.ListN.{drop}
 use Rattle.nu_value.specs.declared.header.ParamKind.{ParamKind}
 use Rattle.nu_value.specs.declared.header.ParamKind.TheVariants as param
+use Rattle.nu_value.specs.declared.key.Atom.{Atom}
+use Rattle.nu_value.specs.declared.key.Atom.TheVariants as atom
 use Rattle.nu_value.specs.declared.object.Object.{Object}
 use Rattle.nu_value.specs.declared.object.Object.TheVariants as object
 use Rattle.nu_value.specs.declared.value.Value.{Value}
 use Rattle.nu_value.specs.declared.value.Value.TheVariants as value
-use Rattle.nu_value.specs.Names.{AreDistinct, value_at}
+use Rattle.nu_value.specs.Names.{NameList, AreDistinct, value_at}
+use Rattle.nu_value.specs.Pairs.{PairList}
 use Rattle.op_rules.specs.declared.binding.Named.{Named}
 use Rattle.op_rules.specs.declared.binding.Named.TheVariants.{AtPlace, ByKey, NoName}
 use Rattle.op_rules.specs.declared.binding.Bound.TheVariants.{Ready}
-use Rattle.op_rules.specs.Binding.{ParamList, Call, is_placed, one_if, places, has_star, has_double, named, default_of, dict_number, left_over, bound_call}
+use Rattle.op_rules.specs.Binding.{ParamList, Call, is_placed, one_if, places, has_star, has_double, named, default_of, dict_number, bound_call}
 
 abbrev pub next_placed : Bool → (ℕ → ℕ) → ℕ → ℕ
 next_placed true rest zero = zero
@@ -28,6 +31,23 @@ abbrev pub place_at : ParamList → ℕ → ℕ
 place_at [] i = zero
 place_at (p ∷ ps) zero = zero
 place_at (p ∷ ps) (suc i) = one_if (is_placed p.0) + place_at ps i
+
+-- the keywords that name no parameter
+abbrev pub unnamed_one : Named → List ℕ × Value → NameList → NameList
+unnamed_one NoName q rest = q ∷ rest
+unnamed_one other q rest = rest
+
+abbrev pub unnamed : ParamList → NameList → NameList
+unnamed ps [] = []
+unnamed ps (q ∷ qs) = unnamed_one (named ps 0 0 q.0) q (unnamed ps qs)
+
+-- the pairs of a dict that has these keywords
+abbrev pub pair_of : List ℕ × Value → List Atom × Value × Value
+pair_of q = (atom.Str q.0 ∷ [], value.Str q.0, q.1)
+
+abbrev pub pairs_of : NameList → PairList
+pairs_of [] = []
+pairs_of (q ∷ qs) = pair_of q ∷ pairs_of qs
 
 -- a keyword's value is that of the parameter that it names, to which no positional argument goes
 abbrev pub GoesTo : Call → List Value → Value → Named → Type 0
@@ -47,11 +67,11 @@ pub record Binds (c : Call) (values : List Value) (made : List Object) : Type 0 
   pub defaulted : (i : ℕ) (p : ParamKind × List ℕ) → slice_get c.params i ≡ Some p → is_placed p.0 ≡ true → length c.args ≤ place_at c.params i → value_at c.names p.1 ≡ None
       → slice_get values i ≡ default_of c.defaults (places c.params) (place_at c.params i)
   pub key_defaulted : (i : ℕ) (name : List ℕ) → slice_get c.params i ≡ Some (param.Key, name) → value_at c.names name ≡ None → slice_get values i ≡ value_at c.keywords name
-  -- a star has the tuple of the positional arguments behind all places, and a double star the dict of the keywords that name none
+  -- a star has the tuple of the positional arguments behind all places, and a double star the dict of the keywords that name no parameter, in their order
   pub star : (i : ℕ) (name : List ℕ) → slice_get c.params i ≡ Some (param.Star, name)
       → (slice_get values i ≡ Some (value.Obj c.first)) × (slice_get made 0 ≡ Some (object.Tuple (drop (places c.params) c.args)))
   pub double : (i : ℕ) (name : List ℕ) → slice_get c.params i ≡ Some (param.Double, name)
-      → (slice_get values i ≡ Some (value.Obj (dict_number c))) × (slice_get made (one_if (has_star c.params)) ≡ Some (object.Dict (left_over c.params c.names [])))
+      → (slice_get values i ≡ Some (value.Obj (dict_number c))) × (slice_get made (one_if (has_star c.params)) ≡ Some (object.Dict (pairs_of (unnamed c.params c.names))))
 
 abbrev pub EachArgumentHasItsParameter : Type 0
 EachArgumentHasItsParameter = (scope : List ℕ) (c : Call) (values : List Value) → AreDistinct c.names → (bound_call scope c).bound ≡ Ready values → Binds c values (bound_call scope c).made

@@ -113,7 +113,7 @@ fn key_value<'a>(call: &Call<'a>, name: &str, index: usize) -> Option<&'a Value>
     }
 }
 
-fn copied(value: Option<&Value>) -> Result<Option<Value>, AllocError>
+fn copy_of(value: Option<&Value>) -> Result<Option<Value>, AllocError>
     ensures { IfOk result (λ v. v ≡ option_copied value.entry) }
 {
     match value {
@@ -136,9 +136,9 @@ fn value_for(
 {
     let name = param.1.as_str();
     match param.0 {
-        ParamKind::Only => copied(place_value(call, place)),
-        ParamKind::Plain => copied(plain_value(call, name, place)),
-        ParamKind::Key => copied(key_value(call, name, index)),
+        ParamKind::Only => copy_of(place_value(call, place)),
+        ParamKind::Plain => copy_of(plain_value(call, name, place)),
+        ParamKind::Key => copy_of(key_value(call, name, index)),
         ParamKind::Star => Ok(Some(Value::Obj(call.first))),
         ParamKind::Double => Ok(Some(Value::Obj(u64::from(has_star(call.params)) + call.first))),
     }
