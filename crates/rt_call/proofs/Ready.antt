@@ -18,7 +18,7 @@ use Rattle.op_rules.specs.declared.binding.Named.{Named}
 use Rattle.op_rules.specs.declared.binding.Named.TheVariants.{AtPlace, ByKey, NoName}
 use Rattle.op_rules.specs.declared.binding.Bound.{Bound}
 use Rattle.op_rules.specs.declared.binding.Bound.TheVariants.{Ready, Raise, Stop}
-use Rattle.op_rules.specs.Binding.{ParamList, Call, is_placed, is_star, is_double, one_if, places, has_star, has_double, named_one, named, too_many, keyword_error, first_error, keywords_error, default_of, value_for, Values, All, Missing, and_one, with_one, values_from, left_over, collected, made_by, bound_call, fits_star, bound_values, bound_or, binding}
+use Rattle.op_rules.specs.Binding.{ParamList, Call, is_placed, is_star, is_double, one_if, places, has_star, has_double, named_one, named, too_many, keyword_error, first_error, keywords_error, default_of, value_for, Values, All, Missing, and_one, with_one, values_from, collected, made_by, bound_call, fits_star, bound_values, bound_or, binding}
 use Rattle.op_rules.proofs.Begun.{Counts, binding_counts, IsError, keywords_err}
 use Rattle.rt_call.specs.Laws.{next_placed, index_of, place_at, unnamed, pairs_of, GoesTo, Binds, EachArgumentHasItsParameter}
 use Rattle.rt_call.proofs.LeftOver.{left_pairs}
