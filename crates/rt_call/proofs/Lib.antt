@@ -1,3 +1,3 @@
-mod Chains
+mod LeftOver
 mod Pairs
 mod Ready

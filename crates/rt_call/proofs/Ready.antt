@@ -1,22 +1,27 @@
 -- What a binding that is ready gives to each parameter.
-use Rattle.std.proofs.Common.{◌≡◌, ℕ, zero, suc, ◌+◌, ◌<◌, ◌≤◌, List, [], ◌∷◌, Option, Some, None, Bool, true, false, refl, sym, ap, subst, ◌∙◌, arith, length}
-use Rattle.std.specs.Prelude.{◌&&◌, ◌||◌, not, codes, if◌then◌else◌, nat_eq, nat_lt, slice_get}
+use Rattle.std.proofs.Common.{◌≡◌, ℕ, zero, suc, ◌+◌, ◌<◌, ◌≤◌, List, [], ◌∷◌, ◌++◌, Option, Some, None, Bool, true, false, refl, sym, ap, subst, ◌∙◌, arith, length}
+use Rattle.std.specs.Prelude.{◌&&◌, ◌||◌, not, if◌then◌else◌, nat_eq, nat_lt, slice_get}
 use Rattle.std.specs.Str.{bytes_eq}
+use Rattle.std.proofs.Math.ListN.{drop}
 use Rattle.std.proofs.lemmas.Bool.Decides.{nat_tests}
 use Rattle.std.proofs.lemmas.Option.{slice_get_past}
 use Rattle.std.proofs.lemmas.Slice.Eq.{bytes_eq-Decides}
 use Rattle.nu_value.specs.declared.header.ParamKind.{ParamKind}
 use Rattle.nu_value.specs.declared.header.ParamKind.TheVariants as param
+use Rattle.nu_value.specs.declared.object.Object.{Object}
+use Rattle.nu_value.specs.declared.object.Object.TheVariants as object
 use Rattle.nu_value.specs.declared.value.Value.{Value}
 use Rattle.nu_value.specs.Classes.{first_of}
-use Rattle.nu_value.specs.Names.{NameList, value_at}
+use Rattle.nu_value.specs.Names.{NameList, AreDistinct, value_at}
+use Rattle.nu_value.proofs.Distinct.{place_is}
 use Rattle.op_rules.specs.declared.binding.Named.{Named}
 use Rattle.op_rules.specs.declared.binding.Named.TheVariants.{AtPlace, ByKey, NoName}
 use Rattle.op_rules.specs.declared.binding.Bound.{Bound}
 use Rattle.op_rules.specs.declared.binding.Bound.TheVariants.{Ready, Raise, Stop}
-use Rattle.op_rules.specs.Binding.{ParamList, Call, is_placed, one_if, places, has_star, has_double, named_one, named, is_at, is_key, too_many, keyword_error, first_error, keywords_error, default_of, value_if, value_for, Values, All, Missing, and_one, with_one, values_from, fits_star, bound_values, bound_or, binding}
+use Rattle.op_rules.specs.Binding.{ParamList, Call, is_placed, is_star, is_double, one_if, places, has_star, has_double, named_one, named, too_many, keyword_error, first_error, keywords_error, default_of, value_for, Values, All, Missing, and_one, with_one, values_from, collected, made_by, bound_call, fits_star, bound_values, bound_or, binding}
 use Rattle.op_rules.proofs.Begun.{Counts, binding_counts, IsError, keywords_err}
-use Rattle.rt_call.specs.Laws.{next_placed, index_of, GoesTo, EachArgumentHasItsParameter}
+use Rattle.rt_call.specs.Laws.{next_placed, index_of, place_at, unnamed, pairs_of, GoesTo, Binds, EachArgumentHasItsParameter}
+use Rattle.rt_call.proofs.LeftOver.{left_pairs}
 
 -- ---- what is ready
 
@@ -250,9 +255,16 @@ not_below p n e = grind (arith, nat_tests)
 
 goes : (scope : List ℕ) (c : Call) (values : List Value) → values_from c 0 0 c.params ≡ All values → (name : List ℕ) (v : Value) → value_at c.names name ≡ Some v → (n : Named) → named c.params 0 0 name ≡ n → keyword_error scope (length c.args) (has_double c.params) name n ≡ None → GoesTo c values v n
 goes scope c values given name v there (AtPlace p) is none =
-    at_its_place c name v there p is (slice_get_past c.args p (not_below p (length c.args) (no_error_false (nat_lt p (length c.args)) _ none))) values given
+    let free : length c.args ≤ p = not_below p (length c.args) (no_error_false (nat_lt p (length c.args)) _ none) in
+    (at_its_place c name v there p is (slice_get_past c.args p free) values given, free)
 goes scope c values given name v there (ByKey i) is none = at_its_index c name v there i is values given
 goes scope c values given name v there NoName is none = no_error_true (has_double c.params) _ none
+
+-- a keyword stands once among distinct names
+value_there : (qs : NameList) (i : ℕ) (name : List ℕ) (v : Value) → AreDistinct qs → slice_get qs i ≡ Some (name, v) → value_at qs name ≡ Some v
+value_there qs i name v d at =
+    let self : bytes_eq name name ≡ true = (bytes_eq-Decides name name).1 refl in
+    rw (place_is qs i (name, v) name d at self, at) refl
 
 both_false : (a b : Bool) → (a && not b) ≡ false → a ≡ true → b ≡ true
 both_false true true e f = refl
@@ -262,12 +274,81 @@ both_false false b e f = absurd (cc)
 below : (m n : ℕ) → m < n → nat_lt m n ≡ true
 below m n p = grind (arith, nat_tests)
 
-pub each_argument : EachArgumentHasItsParameter
-each_argument = record {
-  counted = λ scope c values e. subst (λ b. Counts (length c.params) b) e (binding_counts scope c);
-  placed = λ scope c values e i v at small. placed_at c 0 0 c.params values (is_ready scope c values e).given i v (subst (λ n. slice_get c.args n ≡ Some v) (omega arith) at) small;
-  starred = λ scope c values e more. both_false (nat_lt (places c.params) (length c.args)) (has_star c.params) (is_ready scope c values e).room (below (places c.params) (length c.args) more);
-  keyword = λ scope c values e i name v at there.
-      goes scope c values (is_ready scope c values e).given name v there (named c.params 0 0 name) refl
-      (keyword_none scope c.params (length c.args) c.names (is_ready scope c values e).keywords i name v at);
+-- ---- the values of parameters, by their numbers
+
+each_value : (c : Call) (place index : ℕ) (ps : ParamList) (vs : List Value) → values_from c place index ps ≡ All vs → (i : ℕ) (p : ParamKind × List ℕ) → slice_get ps i ≡ Some p → slice_get vs i ≡ value_for c (place_at ps i + place) (i + index) p
+each_value c place index [] vs e i p at = absurd (cc)
+each_value c place index (q ∷ ps) vs e zero p at =
+    let s : Splits q.1 (value_for c place index q) (values_from c (one_if (is_placed q.0) + place) (1 + index) ps) vs = splits q.1 (value_for c place index q) _ vs e in
+    let same : q ≡ p = cc in
+    let here : place ≡ 0 + place = omega arith in
+    let number : index ≡ 0 + index = omega arith in
+    ap (λ l. slice_get l zero) s.all ∙ sym s.first ∙ ap (value_for c place index) same ∙ ap (λ m. value_for c m index p) here ∙ ap (λ m. value_for c (0 + place) m p) number
+each_value c place index (q ∷ ps) vs e (suc i) p at =
+    let s : Splits q.1 (value_for c place index q) (values_from c (one_if (is_placed q.0) + place) (1 + index) ps) vs = splits q.1 (value_for c place index q) _ vs e in
+    let rest : slice_get s.values i ≡ value_for c (place_at ps i + (one_if (is_placed q.0) + place)) (i + (1 + index)) p = each_value c (one_if (is_placed q.0) + place) (1 + index) ps s.values s.others i p at in
+    let here : place_at ps i + (one_if (is_placed q.0) + place) ≡ one_if (is_placed q.0) + place_at ps i + place = omega arith in
+    let number : i + (1 + index) ≡ suc i + index = omega arith in
+    ap (λ l. slice_get l (suc i)) s.all ∙ rest ∙ ap (λ m. value_for c m (i + (1 + index)) p) here ∙ ap (λ m. value_for c (one_if (is_placed q.0) + place_at ps i + place) m p) number
+
+number_of : (c : Call) (values : List Value) → values_from c 0 0 c.params ≡ All values → (i : ℕ) (p : ParamKind × List ℕ) → slice_get c.params i ≡ Some p → slice_get values i ≡ value_for c (place_at c.params i) i p
+number_of c values given i p at =
+    let here : place_at c.params i + 0 ≡ place_at c.params i = omega arith in
+    let number : i + 0 ≡ i = omega arith in
+    each_value c 0 0 c.params values given i p at ∙ ap (λ m. value_for c m (i + 0) p) here ∙ ap (λ m. value_for c (place_at c.params i) m p) number
+
+placed_default : (c : Call) (place index : ℕ) (p : ParamKind × List ℕ) → is_placed p.0 ≡ true → slice_get c.args place ≡ None → value_at c.names p.1 ≡ None → value_for c place index p ≡ default_of c.defaults (places c.params) place
+placed_default c place index (param.Only, name) is free none = rw free refl
+placed_default c place index (param.Plain, name) is free none = rw (free, none) refl
+placed_default c place index (param.Star, name) is free none = absurd (cc)
+placed_default c place index (param.Key, name) is free none = absurd (cc)
+placed_default c place index (param.Double, name) is free none = absurd (cc)
+
+key_default : (c : Call) (place index : ℕ) (name : List ℕ) → value_at c.names name ≡ None → value_for c place index (param.Key, name) ≡ value_at c.keywords name
+key_default c place index name none = rw none refl
+
+-- ---- what a star and a double star have
+
+or_true : (a b : Bool) → b ≡ true → (a || b) ≡ true
+or_true true b e = refl
+or_true false b e = e
+
+star_there : (ps : ParamList) (i : ℕ) (name : List ℕ) → slice_get ps i ≡ Some (param.Star, name) → has_star ps ≡ true
+star_there [] i name at = absurd (cc)
+star_there (q ∷ ps) zero name at = let same : q ≡ (param.Star, name) = cc in rw same refl
+star_there (q ∷ ps) (suc i) name at = or_true (is_star q.0) (has_star ps) (star_there ps i name at)
+
+double_there : (ps : ParamList) (i : ℕ) (name : List ℕ) → slice_get ps i ≡ Some (param.Double, name) → has_double ps ≡ true
+double_there [] i name at = absurd (cc)
+double_there (q ∷ ps) zero name at = let same : q ≡ (param.Double, name) = cc in rw same refl
+double_there (q ∷ ps) (suc i) name at = or_true (is_double q.0) (has_double ps) (double_there ps i name at)
+
+tuple_made : (c : Call) → has_star c.params ≡ true → slice_get (collected c) 0 ≡ Some (object.Tuple (drop (places c.params) c.args))
+tuple_made c e = rw e refl
+
+second_if : (b : Bool) (t d : Object) → slice_get ((if b then t ∷ [] else []) ++ d ∷ []) (one_if b) ≡ Some d
+second_if true t d = refl
+second_if false t d = refl
+
+dict_made : (c : Call) → AreDistinct c.names → has_double c.params ≡ true → slice_get (collected c) (one_if (has_star c.params)) ≡ Some (object.Dict (pairs_of (unnamed c.params c.names)))
+dict_made c d e = rw (e, left_pairs c.params c.names d) (second_if (has_star c.params) _ _)
+
+binds : (scope : List ℕ) (c : Call) (values : List Value) → AreDistinct c.names → binding scope c ≡ Ready values → IsReady scope c values → Binds c values (collected c)
+binds scope c values d e r = record {
+  counted = subst (λ b. Counts (length c.params) b) e (binding_counts scope c);
+  placed = λ i v at small. placed_at c 0 0 c.params values r.given i v (subst (λ n. slice_get c.args n ≡ Some v) (omega arith) at) small;
+  starred = λ more. both_false (nat_lt (places c.params) (length c.args)) (has_star c.params) r.room (below (places c.params) (length c.args) more);
+  keyword = λ i name v at.
+      goes scope c values r.given name v (value_there c.names i name v d at) (named c.params 0 0 name) refl
+      (keyword_none scope c.params (length c.args) c.names r.keywords i name v at);
+  defaulted = λ i p at is free none.
+      number_of c values r.given i p at ∙ placed_default c (place_at c.params i) i p is (slice_get_past c.args (place_at c.params i) free) none;
+  key_defaulted = λ i name at none. number_of c values r.given i (param.Key, name) at ∙ key_default c (place_at c.params i) i name none;
+  star = λ i name at. (number_of c values r.given i (param.Star, name) at, tuple_made c (star_there c.params i name at));
+  double = λ i name at. (number_of c values r.given i (param.Double, name) at, dict_made c d (double_there c.params i name at));
 }
+
+pub each_argument : EachArgumentHasItsParameter
+each_argument scope c values d e =
+    let made : (bound_call scope c).made ≡ collected c = ap (λ b. made_by b c) e in
+    subst (Binds c values) (sym made) (binds scope c values d e (is_ready scope c values e))

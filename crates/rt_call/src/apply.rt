@@ -8,7 +8,7 @@ use crate::calls::call_value;
 use crate::collecting::copied;
 use crate::definitions::func_row;
 use crate::given::{items_of, names_of};
-use nu_run::StopKind;
+use crate::objects::unbuilt;
 use nu_value::{Codes, Heap, Names, Value};
 use op_forms::{Op, OpEnd};
 use std::alloc::{AllocError, Global};
@@ -45,6 +45,6 @@ pub fn apply_call(
             call_value(alloc, heap, function, items, Names::new(alloc))
         }
         (Op::CallX, [function, list, dict]) => callx_row(alloc, heap, function, list, dict),
-        _ => Ok(OpEnd::Stop(StopKind::Unbuilt)),
+        _ => unbuilt(),
     }
 }

@@ -2,25 +2,17 @@
 
 ghost use Rattle.std.specs.Prelude.{◌≡◌, ◌∷◌, IfOk, slice_get};
 ghost use Rattle.op_forms.specs.Doing.{Did};
-ghost use Rattle.op_forms.specs.Answers as answers;
 ghost use Rattle.op_rules.specs.Calls as spec;
 
 use crate::classes::method_in;
-use crate::collecting::copied;
-use crate::construction::{construct, is_exception_class, native_class, not_callable};
+use crate::construction::{construct, is_exception_class, not_callable};
+use crate::native_classes::native_class;
 use crate::natives::native_called;
-use nu_run::StopKind;
-use nu_text::RcStr;
-use nu_value::{Codes, Heap, Items, Names, Object, Pairs, Value};
-use op_forms::{After, Op, OpEnd};
+use crate::objects::unbuilt;
+use nu_value::{Heap, Items, Names, Object, Value};
+use op_forms::{After, OpEnd};
 use op_rules::Method;
 use std::alloc::{AllocError, Global};
-
-fn unbuilt() -> Result<OpEnd, AllocError>
-    ensures { IfOk result (λ e. e ≡ answers.unbuilt) }
-{
-    Ok(OpEnd::Stop(StopKind::Unbuilt))
-}
 
 fn asks_function(function: u64, args: Items, names: Names) -> OpEnd
     ensures { result ≡ spec.asks_function function args names }

@@ -1,34 +1,18 @@
-//! Calls of classes: new instances and exceptions, and what the classes make that no script made (reference, section 6.3.4).
+//! New instances and exceptions (reference, section 6.3.4).
 
 ghost use Rattle.std.specs.Prelude.{◌≡◌, ◌∷◌, IfOk, slice_get};
 ghost use Rattle.op_forms.specs.Doing.{Did, makes};
 ghost use Rattle.op_rules.specs.Construction as spec;
 ghost use Rattle.op_rules.specs.Kinds as kinds;
 
-use crate::classes::{is_under, method_in};
-use nu_run::StopKind;
-use nu_value::{Heap, Integer, Items, Names, Object, Value};
+use crate::classes::method_in;
+use crate::collecting::copied;
+use crate::objects::unbuilt;
+use nu_value::{Heap, Items, Names, Object, Value};
 use op_forms::{After, OpEnd};
-use op_rules::{Method, ask, kind_name, raised};
+use op_rules::{Method, kind_name, raised};
+use rt_class::is_under;
 use std::alloc::{AllocError, Global};
-
-const OBJECT: u64 = 0;
-
-const BOOL: u64 = 2;
-
-const INT: u64 = 3;
-
-const STR: u64 = 4;
-
-const TUPLE: u64 = 5;
-
-const LIST: u64 = 6;
-
-const DICT: u64 = 7;
-
-const RANGE: u64 = 8;
-
-const TYPE: u64 = 11;
 
 const BASE_EXCEPTION: u64 = 19;
 
@@ -38,8 +22,7 @@ const NAME_ERROR: u64 = 30;
 
 const TYPE_ERROR: u64 = 35;
 
-const VALUE_ERROR: u64 = 36;
-
+/// Whether a class is `BaseException` or stands under it.
 pub fn is_exception_class(heap: &Heap, class: u64) -> bool
     ensures { result ≡ spec.is_exception_class heap.now class }
 {
@@ -76,7 +59,8 @@ fn takes_none(alloc: Global, heap: &Heap, class: u64) -> Result<OpEnd, AllocErro
     raised(alloc, TYPE_ERROR, text.as_str())
 }
 
-fn make(heap: &mut Heap, object: Object) -> Result<OpEnd, AllocError>
+/// A new object, which is given.
+pub fn make(heap: &mut Heap, object: Object) -> Result<OpEnd, AllocError>
     ensures { IfOk result (λ e. Did (makes heap.old object) heap.old heap.new e) }
 {
     Ok(OpEnd::Give(Value::Obj(heap.make(object)?)))
@@ -107,7 +91,7 @@ fn exception_made(
     if names.as_slice().is_empty() {
         make_of(alloc, heap, class, args)
     } else if takes_keywords(heap, class) {
-        Ok(OpEnd::Stop(StopKind::Unbuilt))
+        unbuilt()
     } else {
         takes_none(alloc, heap, class)
     }
@@ -157,19 +141,16 @@ fn natively_made(
     if names.as_slice().is_empty() && is_exception_class(heap, class) {
         make_of(alloc, heap, class, args)
     } else {
-        Ok(OpEnd::Stop(StopKind::Unbuilt))
+        unbuilt()
     }
 }
 
-// The same values in a list of their own, behind another.
+// A list of its own of a value and those behind it.
 fn with_first(alloc: Global, first: Value, values: &[Value]) -> Result<Items, AllocError>
     ensures { IfOk result (λ items. items ≡ first ∷ values.now) }
 {
-    let mut items = Items::new(alloc);
-    items.push(first)?;
-    for value in values {
-        items.push(value.copy()?)?;
-    }
+    let mut items = copied(alloc, values)?;
+    items.insert(0, first)?;
     Ok(items)
 }
 
@@ -204,10 +185,11 @@ pub fn construct(
         Method::Absent => plainly_made(alloc, heap, class, args, &names),
         Method::Function(function) => made_by_function(alloc, heap, function, class, args, names),
         Method::Native => natively_made(alloc, heap, class, args, &names),
-        Method::Other => Ok(OpEnd::Stop(StopKind::Unbuilt)),
+        Method::Other => unbuilt(),
     }
 }
 
+/// The error of a value that can't be called.
 pub fn not_callable(alloc: Global, heap: &Heap, value: &Value) -> Result<OpEnd, AllocError>
     ensures { IfOk result (λ e. e ≡ spec.not_callable heap.now value.now) }
 {
@@ -215,98 +197,4 @@ pub fn not_callable(alloc: Global, heap: &Heap, value: &Value) -> Result<OpEnd, 
     text.push_str(kind_name(heap, value))?;
     text.push_str("' object is not callable")?;
     raised(alloc, TYPE_ERROR, text.as_str())
-}
-
-fn object_row(
-    alloc: Global,
-    heap: &mut Heap,
-    args: &[Value],
-    names: &Names,
-) -> Result<OpEnd, AllocError>
-    ensures { IfOk result (λ e. Did (spec.object_row heap.old args.now names.now) heap.old heap.new e) }
-{
-    if !args.is_empty() || !names.as_slice().is_empty() {
-        return Ok(OpEnd::Stop(StopKind::Unbuilt));
-    }
-    make(
-        heap,
-        Object::Instance {
-            class: OBJECT,
-            fields: Names::new(alloc),
-        },
-    )
-}
-
-fn range_by(
-    alloc: Global,
-    heap: &mut Heap,
-    start: Option<i128>,
-    stop: Option<i128>,
-    step: Option<i128>,
-) -> Result<OpEnd, AllocError>
-    ensures { IfOk result (λ e. Did (spec.range_by heap.old start stop step) heap.old heap.new e) }
-{
-    let (Some(start), Some(stop), Some(step)) = (start, stop, step) else {
-        return raised(alloc, TYPE_ERROR, "range() argument must be an int");
-    };
-    if step == 0 {
-        return raised(alloc, VALUE_ERROR, "range() arg 3 must not be zero");
-    }
-    let start = Integer::new(start);
-    let range = Object::range(alloc, start, Integer::new(stop), Integer::new(step))?;
-    make(heap, range)
-}
-
-fn range_row(
-    alloc: Global,
-    heap: &mut Heap,
-    args: &[Value],
-    names: &Names,
-) -> Result<OpEnd, AllocError>
-    ensures { IfOk result (λ e. Did (spec.range_row heap.old args.now names.now) heap.old heap.new e) }
-{
-    if !names.as_slice().is_empty() {
-        return Ok(OpEnd::Stop(StopKind::Unbuilt));
-    }
-    match args {
-        [stop] => range_by(alloc, heap, Some(0), stop.number(), Some(1)),
-        [start, stop] => range_by(alloc, heap, start.number(), stop.number(), Some(1)),
-        [start, stop, step] => range_by(alloc, heap, start.number(), stop.number(), step.number()),
-        _ => Ok(OpEnd::Stop(StopKind::Unbuilt)),
-    }
-}
-
-fn is_left_out(class: u64) -> bool
-    ensures { result ≡ spec.is_left_out class }
-{
-    class == BOOL || class == INT || class == TYPE
-}
-
-/// A class that no script made, other than one of exceptions, is called.
-pub fn native_class(
-    alloc: Global,
-    heap: &mut Heap,
-    class: u64,
-    args: Items,
-    names: Names,
-) -> Result<OpEnd, AllocError>
-    ensures { IfOk result (λ e. Did (spec.native_class heap.old class args names) heap.old heap.new e) }
-{
-    if class == OBJECT {
-        object_row(alloc, heap, args.as_slice(), &names)
-    } else if class == STR {
-        Ok(ask(heap, "_nu_str", args, names, After::Plain))
-    } else if class == TUPLE {
-        Ok(ask(heap, "_nu_listof", args, names, After::Tuple))
-    } else if class == LIST {
-        Ok(ask(heap, "_nu_listof", args, names, After::Plain))
-    } else if class == DICT {
-        Ok(ask(heap, "_nu_dictof", args, names, After::Plain))
-    } else if class == RANGE {
-        range_row(alloc, heap, args.as_slice(), &names)
-    } else if is_left_out(class) {
-        Ok(OpEnd::Stop(StopKind::Unbuilt))
-    } else {
-        not_callable(alloc, heap, &Value::Obj(class))
-    }
 }

@@ -1,6 +1,6 @@
 //! Functions that are made (reference, section 8.7).
 
-ghost use Rattle.std.specs.Prelude.{◌≡◌, IfOk, Some, if◌then◌else◌};
+ghost use Rattle.std.specs.Prelude.{◌≡◌, IfOk, if◌then◌else◌};
 ghost use Rattle.nu_value.specs.Same as same;
 ghost use Rattle.nu_value.specs.declared.object.Object.TheVariants as object;
 ghost use Rattle.op_forms.specs.Fits as fits;
@@ -9,8 +9,7 @@ ghost use Rattle.op_rules.specs.Calls as spec;
 
 use crate::collecting::copied;
 use crate::given::keywords_of;
-use crate::objects::object_of;
-use nu_run::StopKind;
+use crate::objects::{object_of, unbuilt};
 use nu_value::{Codes, Heap, Items, Names, Object, Value};
 use op_forms::OpEnd;
 use std::alloc::{AllocError, Global};
@@ -74,7 +73,7 @@ fn func_made(
     if are_cells(heap, cells) {
         make_function(alloc, heap, code, items, names, cells)
     } else {
-        Ok(OpEnd::Stop(StopKind::Unbuilt))
+        unbuilt()
     }
 }
 
@@ -82,21 +81,24 @@ fn func_by(
     alloc: Global,
     heap: &mut Heap,
     codes: &Codes,
-    number: i128,
+    number: Option<i128>,
     defaults: &Value,
     keywords: &Value,
     cells: &[Value],
 ) -> Result<OpEnd, AllocError>
-    ensures { IfOk result (λ e. Did (spec.func_by codes.now heap.old (Some number) (same.object_of heap.old defaults.now) (same.object_of heap.old keywords.now) cells.now) heap.old heap.new e) }
+    ensures { IfOk result (λ e. Did (spec.func_by codes.now heap.old number (same.object_of heap.old defaults.now) (same.object_of heap.old keywords.now) cells.now) heap.old heap.new e) }
 {
+    let Some(number) = number else {
+        return unbuilt();
+    };
     let Some(Object::Tuple(items)) = object_of(heap, defaults) else {
-        return Ok(OpEnd::Stop(StopKind::Unbuilt));
+        return unbuilt();
     };
     let Some(Object::Dict(pairs)) = object_of(heap, keywords) else {
-        return Ok(OpEnd::Stop(StopKind::Unbuilt));
+        return unbuilt();
     };
     let Some(code) = code_of(codes, number) else {
-        return Ok(OpEnd::Stop(StopKind::Unbuilt));
+        return unbuilt();
     };
     let items = copied(alloc, items.as_slice())?;
     let names = keywords_of(alloc, pairs)?;
@@ -112,11 +114,10 @@ pub fn func_row(
 ) -> Result<OpEnd, AllocError>
     ensures { IfOk result (λ e. Did (spec.func_row codes.now heap.old args.now) heap.old heap.new e) }
 {
-    let [code, defaults, keywords, cells @ ..] = args else {
-        return Ok(OpEnd::Stop(StopKind::Unbuilt));
-    };
-    match code.number() {
-        Some(code) => func_by(alloc, heap, codes, code, defaults, keywords, cells),
-        None => Ok(OpEnd::Stop(StopKind::Unbuilt)),
+    match args {
+        [code, defaults, keywords, cells @ ..] => {
+            func_by(alloc, heap, codes, code.number(), defaults, keywords, cells)
+        }
+        _ => unbuilt(),
     }
 }

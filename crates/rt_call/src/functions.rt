@@ -3,7 +3,7 @@
 ghost use Rattle.std.specs.Prelude.{◌≡◌, ◌++◌, IfOk, OnOk};
 ghost use Rattle.op_rules.specs.Binding as spec;
 
-use crate::binding::binding;
+use crate::binding::{Call, binding};
 use crate::collecting::collect;
 use nu_run::StopKind;
 use nu_value::{Codes, Heap, Names, Object, Value};
@@ -40,10 +40,15 @@ pub fn bind(
     };
     let params = header.params.as_slice();
     let scope = header.scope.as_str();
-    let bound = binding(
-        alloc, scope, params, defaults, others, args, keywords, first,
-    )?;
-    match bound {
+    let call = Call {
+        params,
+        defaults,
+        keywords: others,
+        args,
+        names: keywords,
+        first,
+    };
+    match binding(alloc, scope, &call)? {
         Bound::Ready(values) => {
             collect(alloc, heap, params, args, keywords.as_slice())?;
             Ok(Bound::Ready(values))

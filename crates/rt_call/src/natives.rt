@@ -3,26 +3,18 @@
 ghost use Rattle.std.specs.Prelude.{◌≡◌, ◌++◌, IfOk, OnOk, codes, string_bytes, option_copied};
 ghost use Rattle.std.specs.Fmt.{signed_decimal};
 ghost use Rattle.op_forms.specs.declared.end.OpEnd.TheVariants as opend;
-ghost use Rattle.op_forms.specs.Answers as answers;
 ghost use Rattle.op_rules.specs.NativeCalls as spec;
 
-use crate::classes::found_in;
-use crate::objects::object_of;
-use nu_run::StopKind;
+use crate::objects::{object_of, unbuilt};
 use nu_text::RcStr;
 use nu_value::{Heap, Names, Object, Value};
 use op_forms::{How, OpEnd};
 use op_rules::{kind_name, raised};
+use rt_class::found_in;
 use std::alloc::{AllocError, Global};
 use std::fmt::Write;
 
 const TYPE_ERROR: u64 = 35;
-
-fn unbuilt() -> Result<OpEnd, AllocError>
-    ensures { IfOk result (λ e. e ≡ answers.unbuilt) }
-{
-    Ok(OpEnd::Stop(StopKind::Unbuilt))
-}
 
 // A text and LF, printed in one piece.
 fn print_line(alloc: Global, text: &str) -> Result<OpEnd, AllocError>

@@ -1,9 +1,13 @@
-//! Objects that values are.
+//! Objects that values are, and the end of what isn't built.
 
-ghost use Rattle.std.specs.Prelude.{◌≡◌, option_copied};
+ghost use Rattle.std.specs.Prelude.{◌≡◌, IfOk, option_copied};
 ghost use Rattle.nu_value.specs.Same.{object_of};
+ghost use Rattle.op_forms.specs.Answers as answers;
 
+use nu_run::StopKind;
 use nu_value::{Heap, Object, Value};
+use op_forms::OpEnd;
+use std::alloc::AllocError;
 
 /// The object that a value is.
 pub fn object_of<'a>(heap: &'a Heap, value: &Value) -> Option<&'a Object>
@@ -13,4 +17,10 @@ pub fn object_of<'a>(heap: &'a Heap, value: &Value) -> Option<&'a Object>
         Value::Obj(number) => heap.get(*number),
         _ => None,
     }
+}
+
+pub fn unbuilt() -> Result<OpEnd, AllocError>
+    ensures { IfOk result (λ e. e ≡ answers.unbuilt) }
+{
+    Ok(OpEnd::Stop(StopKind::Unbuilt))
 }
