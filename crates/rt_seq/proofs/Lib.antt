@@ -9,3 +9,6 @@ mod Stepping
 mod SliceLaw
 mod WriteLaw
 mod SortLaw
+mod Alike
+mod Deciding
+mod Merging

@@ -4,6 +4,7 @@ use Rattle.std.specs.Int.{w128}
 use Rattle.std.specs.Prelude.{int_lt}
 use Rattle.std.specs.Option.{option_to_list}
 use Rattle.std.proofs.lemmas.Int.{ints}
+use Rattle.std.proofs.lemmas.List.{append_assoc}
 use Rattle.std.proofs.lemmas.Option.{slice_get_past}
 use Rattle.nu_value.specs.declared.value.Value.{Value}
 use Rattle.op_rules.specs.Slices.{item_list, picked}
@@ -12,7 +13,12 @@ pub picked_next : (items : List Value) (place step : ℤ) (n : ℕ) → 0 < n �
 picked_next items place step zero h = absurd (omega arith)
 picked_next items place step (suc n) h = let back : suc n - 1 ≡ n = omega arith in rw back refl
 
-either : (b : Bool) → (b ≡ true) ⊎ (b ≡ false)
+-- one item more
+pub picked_on : (all new items : List Value) (place step next : ℤ) (n : ℕ) → 0 < n → new ≡ all ++ item_list items place → next ≡ place +ℤ step → new ++ picked items next step (n - 1) ≡ all ++ picked items place step n
+picked_on all new items place step next n h e f =
+    rw (e, f) (append_assoc all (item_list items place) (picked items (place +ℤ step) step (n - 1)) ∙ ap (λ r. all ++ r) (sym (picked_next items place step n h)))
+
+pub either : (b : Bool) → (b ≡ true) ⊎ (b ≡ false)
 either true = inl refl
 either false = inr refl
 
