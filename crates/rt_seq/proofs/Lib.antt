@@ -12,3 +12,6 @@ mod SortLaw
 mod Alike
 mod Deciding
 mod Merging
+mod Ended
+mod Disorder
+mod Dropping

@@ -4,7 +4,7 @@ use Rattle.std.specs.Int.{w128}
 use Rattle.std.specs.Prelude.{int_lt}
 use Rattle.std.specs.Option.{option_to_list}
 use Rattle.std.proofs.lemmas.Int.{ints}
-use Rattle.std.proofs.lemmas.List.{append_assoc}
+use Rattle.std.proofs.lemmas.List.{append_assoc, append-nil}
 use Rattle.std.proofs.lemmas.Option.{slice_get_past}
 use Rattle.nu_value.specs.declared.value.Value.{Value}
 use Rattle.op_rules.specs.Slices.{item_list, picked}
@@ -82,3 +82,8 @@ picked_past items place step n l f g h =
       | inl s ↦ far_down items place step n f g h s
       | inr s ↦ far_up items place step n l f g h s
     ]
+
+-- the last item within all integers
+pub picked_end : (all new items : List Value) (place step : ℤ) (n : ℕ) → 0 < n → length items < 2 ^ 64 → FitsSigned w128 place → FitsSigned w128 step → (FitsSigned w128 (place +ℤ step) → ⊥) → new ≡ all ++ item_list items place → new ≡ all ++ picked items place step n
+picked_end all new items place step n p l f g h e =
+    e ∙ ap (λ r. all ++ r) (sym (picked_next items place step n p ∙ ap (λ r. item_list items place ++ r) (picked_past items place step (n - 1) l f g h) ∙ append-nil (item_list items place)))

@@ -1,12 +1,13 @@
 //! The order of two values (reference, section 6.10.1).
 
-ghost use Rattle.std.specs.Prelude.{◌≡◌, IfOk, length};
+ghost use Rattle.std.specs.Prelude.{◌≡◌, IfOk, length, option_copied, option_map};
 ghost use Rattle.std.specs.Ordering.{nat_cmp};
 ghost use Rattle.nu_value.specs.Same as same;
 ghost use Rattle.op_forms.specs.Signs as signs;
 ghost use Rattle.op_rules.specs.Comparisons as comparisons;
 ghost use Rattle.op_rules.specs.Kinds as kinds;
 ghost use Rattle.op_rules.specs.Ordering as spec;
+ghost use Rattle.rt_seq.specs.Alike as alike;
 
 use crate::lists::object_of;
 use nu_run::StopKind;
@@ -43,6 +44,52 @@ fn lengths_end(op: Op, xs: &[Value], ys: &[Value]) -> OpEnd
     order_end(op, xs.len().cmp(&ys.len()))
 }
 
+fn is_view(object: Option<&Object>) -> bool
+    ensures { result ≡ alike.is_view (option_copied object.entry) }
+{
+    match object {
+        Some(Object::View { .. }) => true,
+        _ => false,
+    }
+}
+
+// Two values that aren't of one kind.
+fn unordered(
+    alloc: Global,
+    op: Op,
+    heap: &Heap,
+    a: &Value,
+    b: &Value,
+) -> Result<OpEnd, AllocError>
+    ensures { IfOk result (λ e. e ≡ alike.unordered (kinds.no_order (signs.sign_of op) heap.now a.now b.now) (same.object_of heap.now a.now) (same.object_of heap.now b.now)) }
+{
+    if is_view(object_of(heap, a)) || is_view(object_of(heap, b)) {
+        Ok(OpEnd::Stop(StopKind::Unbuilt))
+    } else {
+        no_order(alloc, op.sign(), heap, a, b)
+    }
+}
+
+// The items of two lists, or of two tuples.
+fn insides<'a>(
+    x: Option<&'a Object>,
+    y: Option<&'a Object>,
+) -> Option<(&'a [Value], &'a [Value])>
+    ensures { option_map (λ p. (p.0.now, p.1.now)) result ≡ alike.insides (option_copied x.entry) (option_copied y.entry) }
+{
+    match x {
+        Some(Object::List(xs)) => match y {
+            Some(Object::List(ys)) => Some((xs.as_slice(), ys.as_slice())),
+            _ => None,
+        },
+        Some(Object::Tuple(xs)) => match y {
+            Some(Object::Tuple(ys)) => Some((xs.as_slice(), ys.as_slice())),
+            _ => None,
+        },
+        _ => None,
+    }
+}
+
 /// Two values, in which containers may be looked into so deep.
 #[cycle(ordering)]
 fn order_at(
@@ -65,6 +112,7 @@ fn order_at(
 }
 
 #[cycle(ordering)]
+#[tactic(auto, using(crate::proofs::Deciding::inside_is, crate::proofs::Deciding::apart_is))]
 fn order_objects(
     alloc: Global,
     room: u32,
@@ -75,27 +123,9 @@ fn order_objects(
 ) -> Result<OpEnd, AllocError>
     ensures { IfOk result (λ e. e ≡ spec.objects_order (kinds.no_order (signs.sign_of op) heap.now a.now b.now) (spec.inside_order room op heap.now) (same.object_of heap.now a.now) (same.object_of heap.now b.now)) }
 {
-    match (object_of(heap, a), object_of(heap, b)) {
-        (Some(Object::List(xs)), Some(Object::List(ys))) => order_inside(
-            alloc,
-            room,
-            op,
-            heap,
-            xs.as_slice(),
-            ys.as_slice(),
-        ),
-        (Some(Object::Tuple(xs)), Some(Object::Tuple(ys))) => order_inside(
-            alloc,
-            room,
-            op,
-            heap,
-            xs.as_slice(),
-            ys.as_slice(),
-        ),
-        (Some(Object::View { .. }), _) | (_, Some(Object::View { .. })) => Ok(OpEnd::Stop(
-            StopKind::Unbuilt,
-        )),
-        _ => no_order(alloc, op.sign(), heap, a, b),
+    match insides(object_of(heap, a), object_of(heap, b)) {
+        Some((xs, ys)) => order_inside(alloc, room, op, heap, xs, ys),
+        None => unordered(alloc, op, heap, a, b),
     }
 }
 
