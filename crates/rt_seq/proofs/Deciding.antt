@@ -1,5 +1,5 @@
 -- The order of two containers, one item after another.
-use Rattle.std.proofs.Common.{◌≡◌, ◌≢◌, ℕ, zero, suc, ◌-◌, ◌<◌, List, length, Option, Some, None, drop, get_or, refl, arith}
+use Rattle.std.proofs.Common.{◌≡◌, ◌≢◌, ℕ, zero, suc, ◌-◌, ◌<◌, List, length, Option, Some, None, drop, get_or, refl, ap, arith}
 use Rattle.nu_run.specs.declared.StopKind.TheVariants as stop
 use Rattle.nu_value.specs.declared.object.Object.{Object}
 use Rattle.nu_value.specs.declared.object.Object.TheVariants as object
@@ -31,9 +31,13 @@ items_differ o eq order xs ys i x y l e m f is = rw (there xs i x l e, there ys 
 
 -- ---- two objects
 
+found : (List Value → List Value → OpEnd) → OpEnd → Option (List Value × List Value) → OpEnd
+found inside other None = other
+found inside other (Some p) = inside p.0 p.1
+
 pub inside_is : (other : OpEnd) (inside : List Value → List Value → OpEnd) (x y : Option Object) (xs ys : List Value) → insides x y ≡ Some (xs, ys) → objects_order other inside x y ≡ inside xs ys
-inside_is other inside (Some (object.List us)) (Some (object.List vs)) xs ys e = let f : inside us vs ≡ inside xs ys = cc in f
-inside_is other inside (Some (object.Tuple us)) (Some (object.Tuple vs)) xs ys e = let f : inside us vs ≡ inside xs ys = cc in f
+inside_is other inside (Some (object.List us)) (Some (object.List vs)) xs ys e = ap (found inside other) e
+inside_is other inside (Some (object.Tuple us)) (Some (object.Tuple vs)) xs ys e = ap (found inside other) e
 inside_is other inside x y xs ys e = absurd (cc)
 
 pub apart_is : (other : OpEnd) (inside : List Value → List Value → OpEnd) (x y : Option Object) → insides x y ≡ None → objects_order other inside x y ≡ unordered other x y
