@@ -31,7 +31,7 @@ items_differ o eq order xs ys i x y l e m f is = rw (there xs i x l e, there ys 
 
 -- ---- two objects
 
-found : (List Value → List Value → OpEnd) → OpEnd → Option (List Value × List Value) → OpEnd
+abbrev found : (List Value → List Value → OpEnd) → OpEnd → Option (List Value × List Value) → OpEnd
 found inside other None = other
 found inside other (Some p) = inside p.0 p.1
 

@@ -54,13 +54,7 @@ fn is_view(object: Option<&Object>) -> bool
 }
 
 // Two values that aren't of one kind.
-fn unordered(
-    alloc: Global,
-    op: Op,
-    heap: &Heap,
-    a: &Value,
-    b: &Value,
-) -> Result<OpEnd, AllocError>
+fn unordered(alloc: Global, op: Op, heap: &Heap, a: &Value, b: &Value) -> Result<OpEnd, AllocError>
     ensures { IfOk result (λ e. e ≡ alike.unordered (kinds.no_order (signs.sign_of op) heap.now a.now b.now) (same.object_of heap.now a.now) (same.object_of heap.now b.now)) }
 {
     if is_view(object_of(heap, a)) || is_view(object_of(heap, b)) {
@@ -71,10 +65,7 @@ fn unordered(
 }
 
 // The items of two lists, or of two tuples.
-fn insides<'a>(
-    x: Option<&'a Object>,
-    y: Option<&'a Object>,
-) -> Option<(&'a [Value], &'a [Value])>
+fn insides<'a>(x: Option<&'a Object>, y: Option<&'a Object>) -> Option<(&'a [Value], &'a [Value])>
     ensures { option_map (λ p. (p.0.now, p.1.now)) result ≡ alike.insides (option_copied x.entry) (option_copied y.entry) }
 {
     match x {
