@@ -1,5 +1,5 @@
 -- An iterator does what follows from what it finds.
-use Rattle.std.proofs.Common.{◌≡◌, ℕ, ◌<◌, List, [], ◌∷◌, Option, Some, None, Bool, true, false, length, nat_lt, refl, ap, arith}
+use Rattle.std.proofs.Common.{◌≡◌, ℕ, ◌<◌, List, Option, Some, None, Bool, true, false, length, nat_lt, refl, arith}
 use Rattle.std.specs.Prelude.{ℤ, pos, nat_eq, slice_get, if◌then◌else◌}
 use Rattle.std.proofs.lemmas.Bool.Decides.{nat_tests}
 use Rattle.nu_value.specs.declared.key.Atom.{Atom}

@@ -1,4 +1,3 @@
-use Rattle.op_rules.specs.AskedValues.{asks_three}
 use Rattle.rt_seq.proofs.Ended.{ended}
 use Rattle.rt_seq.proofs.asking.unpackstar_row.Goals as goal
 
