@@ -9,3 +9,9 @@ mod Stepping
 mod SliceLaw
 mod WriteLaw
 mod SortLaw
+mod Alike
+mod Deciding
+mod Merging
+mod Ended
+mod Disorder
+mod Dropping

@@ -1,5 +1,5 @@
 -- The numbers of a range lie between its bounds.
-use Rattle.std.proofs.Common.{◌≡◌, ℕ, ◌+◌, ◌-◌, ◌*◌, ◌/◌, ◌<◌, ◌≤◌, ◌⊎◌, inl, inr, ℤ, pos, ◌+ℤ◌, ◌-ℤ◌, ◌*ℤ◌, zero, suc, negsuc, Bool, true, false, true≢false, ◌&&◌, ◌||◌, if◌then◌else◌, FitsSigned, Fits, refl, sym, ap, ◌∙◌, arith}
+use Rattle.std.proofs.Common.{◌≡◌, ℕ, ◌-◌, ◌*◌, ◌/◌, ◌<◌, ◌≤◌, ◌⊎◌, inl, inr, ℤ, pos, ◌+ℤ◌, ◌-ℤ◌, ◌*ℤ◌, zero, suc, negsuc, Bool, true, false, true≢false, ◌&&◌, ◌||◌, if◌then◌else◌, FitsSigned, Fits, refl, sym, ap, ◌∙◌, arith}
 use Rattle.std.specs.Int.{w128}
 use lib.IntN.{neg_ℤ}
 use Rattle.std.specs.Prelude.{int_lt, unsigned_abs}

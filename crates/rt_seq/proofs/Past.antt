@@ -1,5 +1,5 @@
 -- Changes behind the end of a list.
-use Rattle.std.proofs.Common.{◌≡◌, ℕ, suc, ◌≤◌, List, [], ◌∷◌, ◌++◌, length, take, drop, refl, ap, ◌∙◌, arith}
+use Rattle.std.proofs.Common.{◌≡◌, ℕ, suc, ◌≤◌, List, [], ◌∷◌, ◌++◌, length, drop, ap, ◌∙◌, arith}
 use Rattle.std.specs.Prelude.{slice_set, insert, remove}
 use Rattle.std.proofs.lemmas.List.{append-nil, drop_all, take_all, set_past}
 use Rattle.nu_value.specs.declared.value.Value.{Value}

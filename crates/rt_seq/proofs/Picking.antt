@@ -1,9 +1,10 @@
 -- Items at places in steps, and none outside the list.
-use Rattle.std.proofs.Common.{◌≡◌, ℕ, zero, suc, ◌-◌, ◌<◌, ◌≤◌, ◌^◌, ◌⊎◌, inl, inr, ℤ, pos, negsuc, ◌+ℤ◌, Bool, true, false, List, [], ◌∷◌, ◌++◌, length, FitsSigned, refl, sym, ap, ◌∙◌, arith}
+use Rattle.std.proofs.Common.{◌≡◌, ℕ, zero, suc, ◌-◌, ◌<◌, ◌≤◌, ◌^◌, ◌⊎◌, inl, inr, ℤ, pos, negsuc, ◌+ℤ◌, Bool, true, false, List, [], ◌++◌, length, FitsSigned, refl, sym, ap, ◌∙◌, arith}
 use Rattle.std.specs.Int.{w128}
 use Rattle.std.specs.Prelude.{int_lt}
 use Rattle.std.specs.Option.{option_to_list}
 use Rattle.std.proofs.lemmas.Int.{ints}
+use Rattle.std.proofs.lemmas.List.{append_assoc, append-nil}
 use Rattle.std.proofs.lemmas.Option.{slice_get_past}
 use Rattle.nu_value.specs.declared.value.Value.{Value}
 use Rattle.op_rules.specs.Slices.{item_list, picked}
@@ -12,7 +13,12 @@ pub picked_next : (items : List Value) (place step : ℤ) (n : ℕ) → 0 < n �
 picked_next items place step zero h = absurd (omega arith)
 picked_next items place step (suc n) h = let back : suc n - 1 ≡ n = omega arith in rw back refl
 
-either : (b : Bool) → (b ≡ true) ⊎ (b ≡ false)
+-- one item more
+pub picked_on : (all new items : List Value) (place step next : ℤ) (n : ℕ) → 0 < n → new ≡ all ++ item_list items place → next ≡ place +ℤ step → new ++ picked items next step (n - 1) ≡ all ++ picked items place step n
+picked_on all new items place step next n h e f =
+    rw (e, f) (append_assoc all (item_list items place) (picked items (place +ℤ step) step (n - 1)) ∙ ap (λ r. all ++ r) (sym (picked_next items place step n h)))
+
+pub either : (b : Bool) → (b ≡ true) ⊎ (b ≡ false)
 either true = inl refl
 either false = inr refl
 
@@ -76,3 +82,8 @@ picked_past items place step n l f g h =
       | inl s ↦ far_down items place step n f g h s
       | inr s ↦ far_up items place step n l f g h s
     ]
+
+-- the last item within all integers
+pub picked_end : (all new items : List Value) (place step : ℤ) (n : ℕ) → 0 < n → length items < 2 ^ 64 → FitsSigned w128 place → FitsSigned w128 step → (FitsSigned w128 (place +ℤ step) → ⊥) → new ≡ all ++ item_list items place → new ≡ all ++ picked items place step n
+picked_end all new items place step n p l f g h e =
+    e ∙ ap (λ r. all ++ r) (sym (picked_next items place step n p ∙ ap (λ r. item_list items place ++ r) (picked_past items place step (n - 1) l f g h) ∙ append-nil (item_list items place)))

@@ -1,5 +1,5 @@
 -- A slice's items are those at its places, since each place is one of the list.
-use Rattle.std.proofs.Common.{◌≡◌, ℕ, zero, suc, ◌+◌, ◌-◌, ◌*◌, ◌<◌, ◌≤◌, ◌⊎◌, inl, inr, ℤ, pos, negsuc, ◌+ℤ◌, ◌-ℤ◌, ◌*ℤ◌, Bool, true, false, true≢false, List, [], ◌∷◌, ◌++◌, Option, Some, None, length, refl, sym, ap, subst, ◌∙◌, arith}
+use Rattle.std.proofs.Common.{◌≡◌, ℕ, zero, suc, ◌-◌, ◌*◌, ◌<◌, ◌≤◌, inl, inr, ℤ, pos, negsuc, ◌+ℤ◌, ◌-ℤ◌, ◌*ℤ◌, Bool, true, false, true≢false, List, [], ◌∷◌, ◌++◌, Option, Some, None, length, refl, sym, ap, subst, ◌∙◌, arith}
 use Rattle.std.specs.Prelude.{int_lt, unsigned_abs, slice_get, if◌then◌else◌}
 use Rattle.std.specs.Option.{option_to_list}
 use Rattle.std.proofs.lemmas.Int.{ints}
@@ -7,8 +7,8 @@ use Rattle.std.proofs.Math.IntN.{suc_ℤ-*ℤ, *ℤ_comm, *ℤ-zero, +ℤ_assoc,
 use Rattle.nu_value.specs.declared.value.Value.{Value}
 use Rattle.nu_value.specs.Ranges.{range_count}
 use Rattle.op_rules.specs.Items.{number_at}
-use Rattle.op_rules.specs.Slices.{from_end, cut, bound, first_place, end_place, item_from, item_list, picked, sliced}
-use Rattle.rt_seq.specs.Laws.{slice_count, slice_place, SlicesAreItems}
+use Rattle.op_rules.specs.Slices.{from_end, bound, first_place, end_place, item_from, picked}
+use Rattle.rt_seq.specs.Laws.{slice_count, SlicesAreItems}
 use Rattle.rt_seq.proofs.Numbers.{offset_short, up_is, down_is, goes_up, goes_down}
 use Rattle.rt_seq.proofs.Picking.{either}
 

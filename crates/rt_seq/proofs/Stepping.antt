@@ -1,6 +1,7 @@
 -- An iterator does what follows from what it finds.
-use Rattle.std.proofs.Common.{◌≡◌, ℕ, List, [], ◌∷◌, Option, Some, None, Bool, true, false, length, refl}
-use Rattle.std.specs.Prelude.{ℤ, nat_eq, slice_get, if◌then◌else◌}
+use Rattle.std.proofs.Common.{◌≡◌, ℕ, ◌<◌, List, Option, Some, None, Bool, true, false, length, nat_lt, refl, arith}
+use Rattle.std.specs.Prelude.{ℤ, pos, nat_eq, slice_get, if◌then◌else◌}
+use Rattle.std.proofs.lemmas.Bool.Decides.{nat_tests}
 use Rattle.nu_value.specs.declared.key.Atom.{Atom}
 use Rattle.nu_value.specs.declared.object.Object.{Object}
 use Rattle.nu_value.specs.declared.object.Object.TheVariants as object
@@ -11,7 +12,8 @@ use Rattle.nu_value.specs.declared.value.Value.TheVariants as value
 use Rattle.nu_value.specs.Pairs.{PairList}
 use Rattle.nu_value.specs.Ranges.{range_count}
 use Rattle.op_forms.specs.Doing.{Doing, ends}
-use Rattle.op_rules.specs.Iteration.{number_within, pair_from, passes, size_changed, while_sized, next_shown, next_viewed, next_in, next_over}
+use Rattle.op_rules.specs.Iteration.{number_within, pair_from, passes, size_changed, while_sized, next_shown, next_viewed, next_in, next_over, next_on}
+use Rattle.op_rules.specs.Items.{number_at}
 use Rattle.op_rules.specs.Slices.{item_from}
 use Rattle.op_rules.specs.TextItems.{text_item}
 use Rattle.rt_seq.specs.declared.steps.Found.{Found}
@@ -57,3 +59,11 @@ pub over_is : (h : List Object) (n : ℕ) (place : ℤ) (size : ℕ) (x : Value)
 over_is h n place size (value.Str text) = one_is h n place size (text_item text place)
 over_is h n place size (value.Obj m) = in_is h n place size (slice_get h m)
 over_is h n place size x = refl
+
+-- an iterator that isn't over
+pub next_is : (h : List Object) (n : ℕ) (place : ℤ) (size : ℕ) (over : Value) (o : Option Object) (f : Found) → o ≡ Some (object.Iterator over place size false) → f ≡ found_over h over place size → next_on h n o ≡ steps h n place size f
+next_is h n place size over o f e g = rw (e, g) (over_is h n place size over)
+
+-- a number that is there
+pub number_there : (count n : ℕ) (start step : ℤ) → n < count → number_within count start step (pos n) ≡ Some (value.Int (number_at start step n))
+number_there count n start step h = let b : nat_lt n count ≡ true = grind (arith, nat_tests) in rw b refl

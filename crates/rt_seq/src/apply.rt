@@ -4,10 +4,12 @@ ghost use Rattle.std.specs.Prelude.{IfOk};
 ghost use Rattle.op_forms.specs.Doing.{Did};
 ghost use Rattle.op_rules.specs.Sequences as spec;
 
-use crate::asking::{ask_three, ask_two};
+use crate::asking::{extend_row, unpack_row, unpackstar_row};
 use crate::items::{delindex_row, index_row, len_row, list_row, push_row, setindex_row, tuple_row};
 use crate::methods::method_on;
 use crate::operators::{add_row, iadd_row, imul_row, in_row, mod_row, mul_row};
+use crate::order::order_native;
+use crate::ordering::order_row;
 use crate::slices::slice_row;
 use crate::steps::{iter_row, next_row};
 use nu_run::StopKind;
@@ -45,6 +47,15 @@ fn pair(alloc: Global, op: Op, heap: &mut Heap, args: &[Value]) -> Result<OpEnd,
     }
 }
 
+fn comparing(alloc: Global, op: Op, heap: &mut Heap, args: &[Value]) -> Result<OpEnd, AllocError>
+    ensures { IfOk result (λ e. Did (spec.comparing_row op heap.old args.now) heap.old heap.new e) }
+{
+    match args {
+        [a, b] => order_row(alloc, op, heap, a, b),
+        _ => Ok(OpEnd::Stop(StopKind::Unbuilt)),
+    }
+}
+
 fn one(alloc: Global, op: Op, heap: &mut Heap, args: &[Value]) -> Result<OpEnd, AllocError>
     ensures { IfOk result (λ e. Did (spec.signing_row op heap.old args.now) heap.old heap.new e) }
 {
@@ -62,15 +73,10 @@ fn making(alloc: Global, op: Op, heap: &mut Heap, args: &[Value]) -> Result<OpEn
         (Op::Tuple, _) => tuple_row(alloc, heap, args),
         (Op::List, _) => list_row(alloc, heap, args),
         (Op::Push, [list, value]) => push_row(heap, list, value),
-        (Op::Extend, [list, value]) => ask_two(alloc, heap, "_nu_extend", list, value),
-        (Op::Unpack, [value, count]) => ask_two(alloc, heap, "_nu_unpack", value, count),
-        (Op::UnpackStar, [value, before, after]) => ask_three(
-            alloc,
-            heap,
-            "_nu_unpackstar",
-            value,
-            before,
-            after,
+        (Op::Extend, [list, value]) => extend_row(alloc, heap, list, value),
+        (Op::Unpack, [value, count]) => unpack_row(alloc, heap, value, count),
+        (Op::UnpackStar, [value, before, after]) => unpackstar_row(
+            alloc, heap, value, before, after,
         ),
         _ => Ok(OpEnd::Stop(StopKind::Unbuilt)),
     }
@@ -109,6 +115,7 @@ pub fn apply_seq(
         ),
         Op::Index | Op::SetIndex | Op::DelIndex | Op::Slice | Op::Iter | Op::Next | Op::In =>
             accessing(alloc, op, heap, args),
+        Op::Lt | Op::Le | Op::Gt | Op::Ge => comparing(alloc, op, heap, args),
         Op::Neg | Op::Pos | Op::Inv => one(alloc, op, heap, args),
         Op::Add
         | Op::Sub
@@ -133,6 +140,7 @@ fn native(alloc: Global, name: &str, heap: &mut Heap, args: &[Value]) -> Result<
 {
     match args {
         [x] if name == "len" => len_row(alloc, heap, x),
+        [l, r] if name == "_nu_order" => order_native(alloc, heap, l, r),
         _ => Ok(OpEnd::Stop(StopKind::Unbuilt)),
     }
 }

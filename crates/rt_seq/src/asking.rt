@@ -1,7 +1,9 @@
 //! Functions of the built-in text that rows ask.
 
 ghost use Rattle.std.specs.Prelude.{◌≡◌, IfOk};
+ghost use Rattle.op_forms.specs.Doing.{ends};
 ghost use Rattle.op_rules.specs.AskedValues as spec;
+ghost use Rattle.op_rules.specs.Sequences as sequences;
 
 use nu_value::{Heap, Items, Names, Value};
 use op_forms::{After, OpEnd};
@@ -50,4 +52,41 @@ pub fn ask_all(heap: &Heap, name: &str, args: Items, names: Names) -> OpEnd
     ensures { result ≡ spec.asks_all heap.now name.now args names }
 {
     ask(heap, name, args, names, After::Plain)
+}
+
+/// `l.extend(x)`, or a display with `*x`.
+pub fn extend_row(
+    alloc: Global,
+    heap: &Heap,
+    list: &Value,
+    value: &Value,
+) -> Result<OpEnd, AllocError>
+    ensures { IfOk result (λ e. sequences.extend_row heap.now list.now value.now ≡ ends e) }
+{
+    ask_two(alloc, heap, "_nu_extend", list, value)
+}
+
+/// So many items of a value.
+pub fn unpack_row(
+    alloc: Global,
+    heap: &Heap,
+    value: &Value,
+    count: &Value,
+) -> Result<OpEnd, AllocError>
+    ensures { IfOk result (λ e. sequences.unpack_row heap.now value.now count.now ≡ ends e) }
+{
+    ask_two(alloc, heap, "_nu_unpack", value, count)
+}
+
+/// So many items of a value from the first on, so many up to the last, and those between.
+pub fn unpackstar_row(
+    alloc: Global,
+    heap: &Heap,
+    value: &Value,
+    before: &Value,
+    after: &Value,
+) -> Result<OpEnd, AllocError>
+    ensures { IfOk result (λ e. sequences.unpackstar_row heap.now value.now before.now after.now ≡ ends e) }
+{
+    ask_three(alloc, heap, "_nu_unpackstar", value, before, after)
 }

@@ -11,6 +11,8 @@ mod laws;
 mod lists;
 mod methods;
 mod operators;
+mod order;
+mod ordering;
 mod search;
 mod slices;
 mod steps;

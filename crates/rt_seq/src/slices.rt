@@ -96,7 +96,7 @@ fn push_from(all: &mut Items, items: &[Value], place: i128) -> Result<(), AllocE
 }
 
 // So many items, from a place on in steps. Behind the last integer there is none.
-#[tactic(auto, using(crate::proofs::Picking::picked_past))]
+#[tactic(auto, using(crate::proofs::Picking::picked_on, crate::proofs::Picking::picked_end))]
 fn picked(
     alloc: Global,
     items: &[Value],

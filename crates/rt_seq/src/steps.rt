@@ -71,18 +71,26 @@ fn two_of(key: &Value, value: &Value) -> Result<Found, AllocError>
     Ok(Found::Two(key.copy()?, value.copy()?))
 }
 
-fn number_within(start: i128, stop: i128, step: i128, place: i128) -> Found
-    ensures { result ≡ spec_steps.one_of (spec.number_within (range_count start stop step) start step place) }
+// The number at a place that is not negative.
+#[tactic(auto, using(crate::proofs::Stepping::number_there))]
+fn number_from(start: i128, stop: i128, step: i128, place: u128) -> Found
+    ensures { result ≡ spec_steps.one_of (spec.number_within (range_count start stop step) start step (pos place)) }
 {
-    if place < 0 {
-        return Found::Nothing;
-    }
-    let place = place as u128;
     if place < range_len(start, stop, step) {
         let number = number_at(start, stop, step, place);
         Found::One(Value::Int(Integer::new(number)))
     } else {
         Found::Nothing
+    }
+}
+
+fn number_within(start: i128, stop: i128, step: i128, place: i128) -> Found
+    ensures { result ≡ spec_steps.one_of (spec.number_within (range_count start stop step) start step place) }
+{
+    if place < 0 {
+        Found::Nothing
+    } else {
+        number_from(start, stop, step, place as u128)
     }
 }
 
@@ -283,7 +291,7 @@ fn step(
     }
 }
 
-#[tactic(auto, using(crate::proofs::Stepping::over_is))]
+#[tactic(auto, using(crate::proofs::Stepping::next_is))]
 fn next_on(alloc: Global, heap: &mut Heap, iterator: u64) -> Result<OpEnd, AllocError>
     ensures { IfOk result (λ e. Did (spec.next_on heap.old iterator (slice_get heap.old iterator)) heap.old heap.new e) }
 {
