@@ -1,5 +1,5 @@
 -- What uses only values that name no marked object keeps a lawful world lawful.
-use Rattle.std.proofs.Common.{◌≡◌, ℕ, zero, suc, ◌+◌, ◌≤◌, List, [], ◌∷◌, ◌++◌, Option, Some, None, Bool, true, false, refl, sym, ap, subst, ◌∙◌, arith, length, inl, inr}
+use Rattle.std.proofs.Common.{◌≡◌, ℕ, zero, suc, ◌+◌, ◌<◌, ◌≤◌, List, [], ◌∷◌, ◌++◌, Option, Some, None, Bool, true, false, refl, sym, ap, subst, ◌∙◌, arith, length, inl, inr}
 use Rattle.std.specs.Prelude.{◌⊎◌, ◌&&◌, slice_get, slice_set, nat_lt, if◌then◌else◌}
 use Rattle.std.proofs.lemmas.Bool.{cases_lt, cases_eq}
 use Rattle.std.proofs.lemmas.Option.{slice_get_within}
@@ -10,6 +10,7 @@ use Rattle.nu_value.specs.declared.object.Object.{Object}
 use Rattle.nu_value.specs.declared.object.Object.TheVariants as object
 use Rattle.nu_value.specs.declared.value.Value.{Value}
 use Rattle.nu_value.specs.declared.value.Value.TheVariants as value
+use Rattle.nu_value.specs.Names.{NameList}
 use Rattle.nu_value.specs.Pairs.{PairList, key_place, mapped_at, with_pair}
 use Rattle.nu_value.specs.View.{is_text}
 use Rattle.op_forms.specs.declared.end.After.{After}
@@ -28,10 +29,10 @@ use Rattle.op_forms.specs.Sound.{AClass as ClassSort, AGenerator as GeneratorSor
 use Rattle.op_forms.proofs.Grown.{set_cases, set_other, grown_length, grown_before, grown_either}
 use Rattle.op_forms.proofs.Keeping.{set_length, stays, grows, made_at, native_class}
 use Rattle.op_forms.proofs.Objects.{changed_parts}
-use Rattle.op_rules.proofs.Rows.{Asked}
-use Rattle.py_safe.specs.Heaps.{Mark, Open, Keywords, Block, view, AGenerator, nature_of, Grows, IsOpen, ObjectOpen, Takes, MarkedAs, BodyLaw, HeapLaw, KeepsGenerators}
+use Rattle.op_rules.proofs.Begun.{Asked}
+use Rattle.py_safe.specs.Heaps.{Mark, Open, Keywords, Block, View, view, AFunction, AGenerator, nature_of, Grows, IsOpen, ObjectOpen, AllThere, Takes, MarkedAs, BodyLaw, HeapLaw, KeepsGenerators}
 use Rattle.py_safe.specs.Rosters.{Role, OfFunction, Roster}
-use Rattle.py_safe.specs.Rules.{AfterLaw, HowLaw, EndLaw, Leaves, WorldLaw}
+use Rattle.py_safe.specs.Rules.{AfterLaw, HowLaw, GivenAs, MayBegin, EndLaw, Leaves, WorldLaw}
 use Rattle.py_safe.proofs.Growth.{set_same, all_there}
 use Rattle.py_safe.proofs.Worlds.{plain_open}
 
@@ -324,6 +325,27 @@ module _ (c : Roster) (w : World) (marks : ℕ → Mark) (l : WorldLaw c w marks
   how_law (how.Throw exception) p q = (p, plain_open c (view (heap_after w.heap d) marks) law_after exception AnException tt p)
   how_law how.Close p q = tt
 
+  function_given : (v : View) (r : Role) (given : List Value) → r ≡ OfFunction → GivenAs v r given
+  function_given v OfFunction given e = tt
+  function_given v r given e = absurd (cc)
+
+  may_begin : (v : View) (o : Option Object) (code : ℕ) (given : List Value) → nature_of o ≡ AFunction code → Takes c code false given → AllThere v given → c.role code ≡ OfFunction → MayBegin c v o given
+  may_begin v (Some (object.Function n defaults keywords cells)) code given e t p r =
+      let is : n ≡ code = cc in
+      (subst (λ k. Takes c k false given) (sym is) t, p, function_given v (c.role n) given (ap c.role is ∙ r))
+  may_begin v o code given e t p r = absurd (cc)
+
+  asked_law : (f : ℕ) (given : List Value) (names : NameList) (a : After) → EndIn (heap_after w.heap d) (opend.Ask f given names a) → EndOf (opens marks) w (opend.Ask f given names a) → Asked w (opend.Ask f given names a) → EndLaw c (view (heap_after w.heap d) marks) (opend.Ask f given names a)
+  asked_law f given names a p q r =
+      let b : BodyLaw c (marks f) (object.Function r.1.0 r.1.1 r.1.2 r.1.3) = l.law.bodies f _ r.1.4 in
+      let there : f < length w.heap = slice_get_within w.heap f _ r.1.4 in
+      let g : Grows (view w.heap marks) (view (heap_after w.heap d) marks) = grows_by w.heap d marks in (
+        may_begin (view (heap_after w.heap d) marks) (slice_get (heap_after w.heap d) f) r.1.0 given (g.natures f there ∙ ap nature_of r.1.4)
+            (takes_of r.1.0 false given r.1.5) (all_there (view (heap_after w.heap d) marks) given p.1 q.args) (function_role (marks f) (c.role r.1.0) q.known b.1),
+        r.0,
+        after_law a p.3 q.after,
+      )
+
   generator_nature : (o : Option Object) → sort_of o ≡ GeneratorSort → (code : ℕ) × (nature_of o ≡ AGenerator code)
   generator_nature (Some (object.Generator code state given cells)) e = (code, refl)
   generator_nature o e = absurd (cc)
@@ -340,7 +362,7 @@ module _ (c : Roster) (w : World) (marks : ℕ → Mark) (l : WorldLaw c w marks
     ),
     all_there (view (heap_after w.heap d) marks) args p.1 q.1,
   )
-  end_law (opend.Ask f given names a) p q r = absurd r
+  end_law (opend.Ask f given names a) p q r = asked_law f given names a p q r
   end_law (opend.Resume g h) p q r = (generator_nature (slice_get (heap_after w.heap d) g) p.0.sort, how_law h p.1 q.1)
   end_law (opend.Put text) p q r = tt
   end_law opend.Line p q r = tt

@@ -1,8 +1,11 @@
 -- The table of operations keeps law.
-use Rattle.std.proofs.Common.{◌≡◌, ℕ, zero, suc, ◌<◌, List, [], ◌∷◌, ◌++◌, Option, Some, None, Bool, true, false, refl, ap, subst, length, inl, inr}
-use Rattle.std.specs.Prelude.{ℤ, pos, not, ◌&&◌, if◌then◌else◌, int_lt, nat_lt, Ok, Err, codes, slice_get}
+use Rattle.std.proofs.Common.{◌≡◌, ℕ, zero, suc, ◌<◌, List, [], ◌∷◌, ◌++◌, Option, Some, None, Bool, true, false, refl, sym, ap, subst, ◌∙◌, arith, length, inl, inr}
+use Rattle.std.specs.Prelude.{◌⊎◌, ℤ, pos, not, ◌&&◌, ◌==◌, if◌then◌else◌, int_lt, nat_lt, nat_le, Result, Ok, Err, codes, slice_get}
+use Rattle.std.specs.List.{list_all}
 use Rattle.std.specs.Ordering.{int_eq}
+use Rattle.nu_run.specs.declared.StopKind.{StopKind}
 use Rattle.nu_run.specs.declared.StopKind.TheVariants as stop
+use Rattle.nu_text.specs.Characters.{characters}
 use Rattle.nu_value.specs.declared.header.Header.{Header}
 use Rattle.nu_value.specs.declared.object.Object.{Object}
 use Rattle.nu_value.specs.declared.object.Object.TheVariants as object
@@ -15,9 +18,12 @@ use Rattle.nu_value.specs.declared.object.ViewKind.TheVariants as view_kind
 use Rattle.nu_value.specs.declared.same.Sameness.{Sameness}
 use Rattle.nu_value.specs.declared.same.Sameness.TheVariants as same
 use Rattle.nu_value.specs.Keyed.{Keyed, key}
-use Rattle.nu_value.specs.Natives.{native_classes}
+use Rattle.nu_value.specs.Classes.{is_under}
+use Rattle.nu_value.specs.Names.{NameList}
+use Rattle.nu_value.specs.Natives.{native_classes, baseexception_number}
 use Rattle.nu_value.specs.Pairs.{PairList}
 use Rattle.nu_value.specs.Same.{number_of, object_of}
+use Rattle.nu_value.specs.View.{is_text}
 use Rattle.op_forms.specs.declared.end.After.{After}
 use Rattle.op_forms.specs.declared.end.After.TheVariants as behind
 use Rattle.op_forms.specs.declared.end.How.{How}
@@ -29,37 +35,55 @@ use Rattle.op_forms.specs.declared.op.Op.TheVariants as op
 use Rattle.op_forms.specs.declared.signature.ArgumentKind.{ArgumentKind}
 use Rattle.op_forms.specs.declared.signature.ArgumentKind.TheVariants as kind
 use Rattle.op_forms.specs.declared.world.World.{World}
-use Rattle.op_forms.specs.Answers.{unbuilt, after}
-use Rattle.op_forms.specs.Doing.{Doing, nothing, heap_after, answer}
+use Rattle.op_forms.specs.Answers.{unbuilt, keeps, after}
+use Rattle.op_forms.specs.Doing.{Doing, nothing, ends, makes, heap_after, answer}
 use Rattle.op_forms.specs.Fits.{is_in, fits}
 use Rattle.op_forms.specs.Laws.{DoingsKeepSound}
-use Rattle.op_forms.specs.Parts.{OrUnset}
+use Rattle.op_forms.specs.Parts.{PairsOf, OrUnset, PartsOf}
 use Rattle.op_forms.specs.Right.{Claim, Closed, GivenBy, Given, AfterOf, HowOf, EndOf, Uses, Right}
 use Rattle.op_forms.specs.Signature.{arguments}
-use Rattle.op_forms.specs.Sound.{IsIn, AfterIn, HowIn, EndIn, Sound}
+use Rattle.op_forms.specs.Sound.{IsIn, AllIn, IsCell, AreCells, AfterIn, HowIn, EndIn, Sound}
 use Rattle.op_forms.proofs.Objects.{parts_by}
 use Rattle.op_rules.specs.declared.family.Family.{Family}
 use Rattle.op_rules.specs.declared.family.Family.TheVariants as family
+use Rattle.op_rules.specs.declared.special.Init.{Init}
+use Rattle.op_rules.specs.declared.special.Init.TheVariants as init
+use Rattle.op_rules.specs.declared.special.Special.{Special}
+use Rattle.op_rules.specs.declared.special.Special.TheVariants as special
 use Rattle.op_rules.specs.Access.{other_row}
 use Rattle.op_rules.specs.Asking.{asked, built_in}
-use Rattle.op_rules.specs.Binding.{bound_end}
+use Rattle.op_rules.specs.Binding.{bound_end, bound}
+use Rattle.op_rules.specs.Calls.{keywords_of, are_cells, func_made, func_by, call_object}
+use Rattle.op_rules.specs.Classes.{attribute_row}
 use Rattle.op_rules.specs.Comparisons.{give_bool, same_end, not_row, truth_row, object_truth, is_row}
 use Rattle.op_rules.specs.Dicts.{dict_row}
-use Rattle.op_rules.specs.Finish.{finishing, finished, truth_after, length_after, is_none, made_after, tuple_after}
+use Rattle.op_rules.specs.Exceptions.{bare, exception_by, init_in, exc_on, exc_row, no_catching, classes_in}
+use Rattle.op_rules.specs.Families.{family_at_first, family_at_second}
+use Rattle.op_rules.specs.Finish.{finishing, finished, truth_after, length_after, is_none, made_after, value_after, tuple_after}
 use Rattle.op_rules.specs.IntRows.{of_one, of_two}
 use Rattle.op_rules.specs.Keys.{no_key, key_or}
 use Rattle.op_rules.specs.Laws.{FinishingKeepsSound, TheStartIsSound}
+use Rattle.op_rules.specs.Routes.{object_route}
+use Rattle.op_rules.specs.SequenceOperators.{in_end as place_end, other_in_range, in_range_of, in_on as in_sequence}
+use Rattle.op_rules.specs.Sequences.{sequence_row}
+use Rattle.op_rules.specs.Specials.{asks_special, by_special, instance_special, special_truth, truth_by_length}
 use Rattle.op_rules.specs.Start.{first_objects, start_world}
-use Rattle.op_rules.specs.Table.{family_at_first, family_at_second, family_row, truth_of, group, doing, row}
+use Rattle.op_rules.specs.Subclasses.{is_exception_class}
+use Rattle.op_rules.specs.Table.{family_row, truth_of, group, routed, doing, row}
 use Rattle.op_rules.specs.TableRules.{table_rules}
+use Rattle.op_rules.specs.TextAccess.{in_text, text_doing}
+use Rattle.op_rules.specs.TextMethods.{give_text, sized_text, join_after}
+use Rattle.op_rules.specs.TextParts.{joined}
+use Rattle.op_rules.specs.TextRows.{size_limit}
 use Rattle.op_rules.specs.Views.{pairs_in, key_within, in_view, in_on}
+use Rattle.op_rules.proofs.Begun.{Asked, bound_right}
+use Rattle.op_rules.proofs.Calls.{keywords_of_all, keywords_distinct, cells_are, code_below}
 use Rattle.op_rules.proofs.Keeping.{asking_sound, bound_sound}
-use Rattle.op_rules.proofs.Plain.{plain_right, call_plain}
-use Rattle.op_rules.proofs.Rows.{Asked, row_right, bound_right, finishing_right}
+use Rattle.op_rules.proofs.Rows.{doing_right, finishing_right}
 use Rattle.py_safe.specs.Rosters.{Roster}
-use Rattle.py_safe.specs.Heaps.{Mark, Open, View, view, ACell, ADict, ASpace, nature_of, IsOpen, AllOpen, BodyLaw, KeepsGenerators}
-use Rattle.py_safe.specs.Rules.{GivesTruth, TruthBehind, EndIsTruth, gives_nature, EndIsOf, EndIsThis, AfterLaw, IsAtOnce, Leaves, Handed, WorldLaw, KeepsLaw}
-use Rattle.py_safe.proofs.Growth.{get_end, grows_trans, is_in_true}
+use Rattle.py_safe.specs.Heaps.{Mark, Open, Block, View, view, Nature, ATuple, AList, ADict, ACell, ASpace, AnError, nature_of, IsOpen, AllOpen, BodyLaw, KeepsGenerators}
+use Rattle.py_safe.specs.Rules.{GivesTruth, TruthBehind, EndIsTruth, gives_nature, EndIsOf, EndIsThis, AfterLaw, IsAtOnce, Leaves, Stops, MakesFunction, Handed, WorldLaw, KeepsLaw}
+use Rattle.py_safe.proofs.Growth.{get_end, grows_trans}
 use Rattle.py_table.proofs.Lawful.{opens, closed_open, news_open, left, Stays, used_stays}
 
 and_left : (a b : Bool) → (a && b) ≡ true → a ≡ true
@@ -165,15 +189,26 @@ tuple_once : (h : List Object) (o : Option Object) → IsAtOnce (tuple_after h o
 tuple_once h (Some (object.List items)) = tt
 tuple_once h other = tt
 
+join_once : (text : List ℕ) (o : Option Object) → IsAtOnce (join_after text o)
+join_once text (Some (object.List items)) =
+    at_once_if (list_all is_text items) (sized_text (joined text items)) _ (at_once_if (nat_le (characters (joined text items)) size_limit) (give_text (joined text items)) _ tt tt) tt
+join_once text o = tt
+
 finished_once : (a : After) (w : World) (v : Value) → IsAtOnce (finished a w v).end
 finished_once behind.Plain w v = tt
 finished_once behind.Truth w v = truth_once v
 finished_once behind.Some w v = length_once (λ z. give_bool (not (int_eq z (pos 0)))) (λ z. tt) (number_of v)
 finished_once behind.Length w v = length_once (λ z. opend.Give (value.Int z)) (λ z. tt) (number_of v)
 finished_once (behind.Made made) w v = made_once made v
-finished_once (behind.Join text) w v = tt
+finished_once (behind.Join text) w v = join_once text (object_of w.heap v)
 finished_once behind.Tuple w v = tuple_once w.heap (object_of w.heap v)
 finished_once (behind.Report exception) w v = tt
+
+-- ---- truth values
+
+true_if : (b : Bool) (e f : OpEnd) → EndIsTruth e → EndIsTruth f → EndIsTruth (if b then e else f)
+true_if true e f p q = p
+true_if false e f p q = q
 
 object_true : (h : List Object) (o : Option Object) → EndIsTruth (object_truth h o)
 object_true h (Some (object.Instance class fields)) = tt
@@ -195,8 +230,23 @@ same_true : (args : List Value) → EndIsTruth (of_two is_row args)
 same_true (a ∷ b ∷ []) = tt
 same_true other = tt
 
+-- the class of an instance decides
+
+asks_true : (s : Special) (args : List Value) (a : After) (e : OpEnd) → TruthBehind a → EndIsTruth e → EndIsTruth (asks_special s args a e)
+asks_true special.Absent args a e t p = p
+asks_true (special.Function f) args a e t p = t
+asks_true special.Other args a e t p = tt
+
+special_true : (h : List Object) (x : Value) (name : List ℕ) (args : List Value) (a : After) (e : OpEnd) → TruthBehind a → EndIsTruth e → EndIsTruth (by_special h x name args a e)
+special_true h x name args a e t p = asks_true (instance_special h (object_of h x) name) args a e t p
+
+class_true : (h : List Object) (x : Value) → EndIsTruth (special_truth h x)
+class_true h x =
+    special_true h x (codes "__bool__") (x ∷ []) behind.Truth (truth_by_length h x) tt
+    (special_true h x (codes "__len__") (x ∷ []) behind.Some (give_bool true) tt tt)
+
 truth_family : (f : Family) (h : List Object) (args : List Value) → EndIsTruth (truth_of f op.Truth h args).end
-truth_family family.Classes h args = one_true (truth_row h) (truth_true h) args
+truth_family family.Classes h args = one_true (special_truth h) (class_true h) args
 truth_family f h args = one_true (truth_row h) (truth_true h) args
 
 -- whether a value is among another's items
@@ -243,17 +293,58 @@ others_true : (h : List Object) (args : List Value) → EndIsTruth (other_row op
 others_true h (v ∷ x ∷ []) = asked_true (built_in h (codes "_nu_in")) (v ∷ x ∷ [])
 others_true h args = tt
 
+classes_true : (h : List Object) (args : List Value) → EndIsTruth (family_row family.Classes op.In h args).end
+classes_true h (v ∷ x ∷ []) = asked_true (built_in h (codes "_nu_in")) (v ∷ x ∷ [])
+classes_true h args = tt
+
+place_true : (p : Result (Option ℕ) StopKind) → EndIsTruth (place_end p)
+place_true (Ok place) = tt
+place_true (Err kind) = tt
+
+range_view_true : (count : ℕ) (o : Option Object) → EndIsTruth (other_in_range count o)
+range_view_true count (Some (object.View dict kind)) = true_if (count == 0) (give_bool false) unbuilt tt tt
+range_view_true count o = tt
+
+range_true : (h : List Object) (start stop step : ℤ) (v : Value) (n : Option ℤ) → EndIsTruth (in_range_of h start stop step v n)
+range_true h start stop step v (Some z) = tt
+range_true h start stop step v None = range_view_true _ (object_of h v)
+
+in_sequence_true : (h : List Object) (v x : Value) (o : Option Object) → EndIsTruth (in_sequence h v x o)
+in_sequence_true h v x (Some (object.List items)) = place_true _
+in_sequence_true h v x (Some (object.Tuple items)) = place_true _
+in_sequence_true h v x (Some (object.Range start stop step)) = range_true h start stop step v (number_of v)
+in_sequence_true h v x o = asked_true (built_in h (codes "_nu_in")) (v ∷ x ∷ [])
+
+sequences_true : (h : List Object) (args : List Value) → EndIsTruth (sequence_row op.In h args).end
+sequences_true h (v ∷ x ∷ []) = in_sequence_true h v x (object_of h x)
+sequences_true h args = tt
+
+in_text_true : (v : Value) (text : List ℕ) → EndIsTruth (in_text v text)
+in_text_true (value.Str part) text = tt
+in_text_true v text = tt
+
+texts_true : (h : List Object) (args : List Value) → EndIsTruth (text_doing op.In h args).end
+texts_true h (v ∷ value.Str text ∷ []) = in_text_true v text
+texts_true h args = tt
+
 in_true : (f : Family) (h : List Object) (args : List Value) → EndIsTruth (family_row f op.In h args).end
+in_true family.Classes h args = classes_true h args
 in_true family.Dicts h args = dicts_true h args
+in_true family.Sequences h args = sequences_true h args
+in_true family.Texts h args = texts_true h args
 in_true family.Integers h args = others_true h args
-in_true f h args = tt
+
+-- whether an `except` clause catches an exception
+match_true : (headers : List Header) (h : List Object) (args : List Value) → EndIsTruth (attribute_row op.Match headers h args).end
+match_true headers h (e ∷ x ∷ []) = true_if (list_all (is_exception_class h) (classes_in x (object_of h x))) (give_bool _) no_catching tt tt
+match_true headers h args = tt
 
 doing_true : (o : Op) (w : World) (args : List Value) → GivesTruth o → EndIsTruth (doing o w args).end
 doing_true op.Truth w args g = truth_family (family_at_first w.heap args) w.heap args
 doing_true op.Not w args g = one_true not_row not_true args
 doing_true op.In w args g = in_true (family_at_second w.heap args) w.heap args
 doing_true op.Is w args g = same_true args
-doing_true op.Match w args g = tt
+doing_true op.Match w args g = match_true w.codes w.heap args
 doing_true other w args g = absurd g
 
 bound_true : (w : World) (e : OpEnd) → EndIsTruth e → EndIsTruth (bound_end w e).end
@@ -265,10 +356,6 @@ bound_true w e p = absurd p
 
 row_true : (o : Op) (w : World) (args : List Value) → GivesTruth o → EndIsTruth (row o w args).end
 row_true o w args g = bound_true (after w (answer w (doing o w args))) (doing o w args).end (doing_true o w args g)
-
-true_if : (b : Bool) (e f : OpEnd) → EndIsTruth e → EndIsTruth f → EndIsTruth (if b then e else f)
-true_if true e f p q = p
-true_if false e f p q = q
 
 length_true : (f : ℤ → OpEnd) → ((z : ℤ) → EndIsTruth (f z)) → (z : Option ℤ) → EndIsTruth (length_after f z)
 length_true f p None = tt
@@ -293,23 +380,153 @@ made_this made v = this_if made (is_none v) (opend.Give made) _ refl tt
 
 -- ---- objects that are made
 
+-- a row, once what it asks is bound, gives an object of this nature if anything
+abbrev GivesOf : World → Nature → Doing → Type 0
+GivesOf w s d = EndIsOf (bound w (answer w d)).heap (Some s) (bound w (answer w d)).end
+
+gives_if : (b : Bool) (w : World) (s : Nature) (d e : Doing) → GivesOf w s d → GivesOf w s e → GivesOf w s (if b then d else e)
+gives_if true w s d e p q = p
+gives_if false w s d e p q = q
+
+gives_new : (w : World) (o : Object) → GivesOf w (nature_of (Some o)) (makes w.heap o)
+gives_new w o = ap nature_of (get_end w.heap o)
+
 cell_made : (w : World) (args : List Value) → EndIsOf (row op.Cell w args).heap (Some ACell) (row op.Cell w args).end
-cell_made w [] = ap nature_of (get_end w.heap (object.Cell value.Unset))
+cell_made w [] = gives_new w (object.Cell value.Unset)
 cell_made w (a ∷ vs) = tt
 
 space_made : (w : World) (args : List Value) → EndIsOf (row op.Space w args).heap (Some ASpace) (row op.Space w args).end
-space_made w [] = ap nature_of (get_end w.heap (object.Space []))
+space_made w [] = gives_new w (object.Space [])
 space_made w (a ∷ vs) = tt
 
 dict_made : (w : World) (args : List Value) → EndIsOf (row op.Dict w args).heap (Some ADict) (row op.Dict w args).end
-dict_made w [] = ap nature_of (get_end w.heap (object.Dict []))
+dict_made w [] = gives_new w (object.Dict [])
 dict_made w (a ∷ vs) = tt
+
+tuple_made : (w : World) (args : List Value) → EndIsOf (row op.Tuple w args).heap (Some ATuple) (row op.Tuple w args).end
+tuple_made w args =
+    gives_if (nat_le (length args) size_limit) w ATuple (makes w.heap (object.Tuple args)) (ends (opend.Stop stop.Size)) (gives_new w (object.Tuple args)) tt
+
+list_made : (w : World) (args : List Value) → EndIsOf (row op.List w args).heap (Some AList) (row op.List w args).end
+list_made w args =
+    gives_if (nat_le (length args) size_limit) w AList (makes w.heap (object.List args)) (ends (opend.Stop stop.Size)) (gives_new w (object.List args)) tt
+
+-- an exception, or a new one
+
+exception_made : (w : World) (class : ℕ) (i : Init) → GivesOf w AnError (exception_by w.heap class i)
+exception_made w class init.Plain = gives_new w (bare class)
+exception_made w class (init.Function f) = tt
+exception_made w class init.Other = tt
+
+raised_made : (w : World) (n : ℕ) (o : Option Object) → slice_get w.heap n ≡ o → GivesOf w AnError (exc_on w.heap n o)
+raised_made w n (Some (object.Exception class args entries fields cause)) e = ap nature_of e
+raised_made w n (Some (object.Class name base own native)) e =
+    gives_if (is_under w.heap (Some n) baseexception_number) w AnError _ _ (exception_made w n (init_in w.heap n)) tt
+raised_made w n o e = tt
+
+value_made : (w : World) (x : Value) → GivesOf w AnError (exc_row w.heap x)
+value_made w (value.Obj n) = raised_made w n (slice_get w.heap n) refl
+value_made w x = tt
+
+exc_made : (w : World) (args : List Value) → EndIsOf (row op.Exc w args).heap (Some AnError) (row op.Exc w args).end
+exc_made w [] = tt
+exc_made w (x ∷ []) = value_made w x
+exc_made w (x ∷ y ∷ vs) = tt
 
 row_makes : (o : Op) (w : World) (args : List Value) → EndIsOf (row o w args).heap (gives_nature o) (row o w args).end
 row_makes op.Cell w args = cell_made w args
 row_makes op.Space w args = space_made w args
 row_makes op.Dict w args = dict_made w args
+row_makes op.Tuple w args = tuple_made w args
+row_makes op.List w args = list_made w args
+row_makes op.Exc w args = exc_made w args
 row_makes other w args = tt
+
+-- ---- functions that are made
+
+-- a function with cells, or a stop
+abbrev MayMake : World → (ℕ → Mark) → ℕ → List Value → Doing → Type 0
+MayMake w marks code cells d = MakesFunction w marks code cells (bound w (answer w d)) ⊎ Stops w.heap (bound w (answer w d))
+
+module _ (c : Roster) (w : World) (marks : ℕ → Mark) (l : WorldLaw c w marks) where
+  cell_in : (v : Value) → IsCell w.heap v → IsIn w.heap v
+  cell_in (value.Obj n) p = p.there
+  cell_in v p = absurd p
+
+  cells_in : (vs : List Value) → AreCells w.heap vs → AllIn w.heap vs
+  cells_in [] p = tt
+  cells_in (v ∷ vs) p = (cell_in v p.0, cells_in vs p.1)
+
+  make_if : (b : Bool) (code : ℕ) (items : List Value) (pairs : PairList) (cells : List Value) → code < length w.codes → are_cells w.heap cells ≡ b → AllIn w.heap items → AllOpen marks items → PairsOf (IsIn w.heap) pairs → PairsOf (IsOpen marks) pairs → AllOpen marks cells
+      → MayMake w marks code cells (if b then makes w.heap (object.Function code items (keywords_of pairs []) cells) else nothing)
+  make_if false code items pairs cells small e i j p q r = inr (stop.Unbuilt, refl, refl)
+  make_if true code items pairs cells small e i j p q r =
+      let are : AreCells w.heap cells = cells_are (opens marks) w (closed_open c w marks l) cells e in
+      inl (record {
+        defaults = items;
+        keywords = keywords_of pairs [];
+        is = record { end = refl; heap = refl };
+        inside = ((i, keywords_of_all (IsIn w.heap) pairs [] p tt, cells_in cells are), (small, keywords_distinct pairs [] tt, are));
+        opens = (j, keywords_of_all (IsOpen marks) pairs [] q tt, r);
+      })
+
+  code_if : (b : Bool) (code : ℕ) (items : List Value) (pairs : PairList) (cells : List Value) → nat_lt code (length w.codes) ≡ b → AllIn w.heap items → AllOpen marks items → PairsOf (IsIn w.heap) pairs → PairsOf (IsOpen marks) pairs → AllOpen marks cells
+      → MayMake w marks code cells (func_made w.heap (if b then Some code else None) items pairs cells)
+  code_if false code items pairs cells e i j p q r = inr (stop.Unbuilt, refl, refl)
+  code_if true code items pairs cells e i j p q r =
+      make_if (are_cells w.heap cells) code items pairs cells (code_below (opens marks) w (closed_open c w marks l) (pos code) code (rw e refl)) refl i j p q r
+
+  abbrev PartsKnown : Option Object → Type 0
+  PartsKnown None = Unit {0}
+  PartsKnown (Some o) = PartsOf (IsIn w.heap) o × PartsOf (IsOpen marks) o
+
+  known_at : (n : ℕ) (o : Option Object) → slice_get w.heap n ≡ o → PartsKnown o
+  known_at n None e = tt
+  known_at n (Some o) e = ((l.sound.heap.objects n o e).0, l.law.opens n o e)
+
+  known_of : (v : Value) → PartsKnown (object_of w.heap v)
+  known_of (value.Obj n) = known_at n (slice_get w.heap n) refl
+  known_of v = tt
+
+  func_objects : (code : ℕ) (defaults keywords : Option Object) (cells : List Value) → PartsKnown defaults → PartsKnown keywords → AllOpen marks cells → MayMake w marks code cells (func_by w.codes w.heap (Some (pos code)) defaults keywords cells)
+  func_objects code (Some (object.Tuple items)) (Some (object.Dict pairs)) cells x y r =
+      code_if (nat_lt code (length w.codes)) code items pairs cells refl x.0 x.1 y.0 y.1 r
+  func_objects code defaults keywords cells x y r = inr (stop.Unbuilt, refl, refl)
+
+  func_makes : (code : ℕ) (d e : Value) (cells : List Value) → AllOpen marks cells → MayMake w marks code cells (func_by w.codes w.heap (Some (pos code)) (object_of w.heap d) (object_of w.heap e) cells)
+  func_makes code d e cells r = func_objects code (object_of w.heap d) (object_of w.heap e) cells (known_of d) (known_of e) r
+
+-- ---- a class's block is called, and doesn't begin yet
+
+some_at : {A : Type 0} (xs : List A) (i : ℕ) → i < length xs → (x : A) × (slice_get xs i ≡ Some x)
+some_at [] i p = absurd (omega arith)
+some_at (x ∷ xs) zero p = (x, refl)
+some_at (x ∷ xs) (suc i) p = some_at xs i (omega arith)
+
+idle_left : (c : Roster) (w : World) (marks : ℕ → Mark) → WorldLaw c w marks → Leaves c w marks (answer w nothing)
+idle_left c w marks l = left c w marks l nothing (record { end = tt; set = tt; made = tt }) (l.sound, tt) tt
+
+module _ (c : Roster) (w : World) (marks : ℕ → Mark) (l : WorldLaw c w marks) (f names : ℕ) where
+  abbrev given : List Value
+  given = value.Obj names ∷ []
+
+  block_asked : (code : ℕ) (defaults : List Value) (keywords : NameList) (cells : List Value) → slice_get w.heap f ≡ Some (object.Function code defaults keywords cells) → doing op.Call w (value.Obj f ∷ given) ≡ ends (opend.Ask f given [] behind.Plain)
+  block_asked code defaults keywords cells at =
+      ap (λ o. routed (object_route w.heap f true given o) op.Call w (value.Obj f ∷ given)) at ∙ ap (λ o. call_object w.heap f given [] o) at
+
+  block_row : (code : ℕ) (defaults : List Value) (keywords : NameList) (cells : List Value) → slice_get w.heap f ≡ Some (object.Function code defaults keywords cells) → row op.Call w (value.Obj f ∷ given) ≡ answer w nothing
+  block_row code defaults keywords cells at = ap (λ d. bound w (answer w d)) (block_asked code defaults keywords cells at)
+
+  block_by : (o : Object) → slice_get w.heap f ≡ Some o → BodyLaw c Block o → Leaves c w marks (row op.Call w (value.Obj f ∷ given))
+  block_by (object.Function code defaults keywords cells) at b =
+      subst (λ x. Leaves c w marks x) (sym (block_row code defaults keywords cells at)) (idle_left c w marks l)
+  block_by (object.Generator code state inner cells) at b = absurd b.3
+  block_by o at b = absurd b
+
+  block_left : marks f ≡ Block → f < length w.heap → Leaves c w marks (row op.Call w (value.Obj f ∷ given))
+  block_left m small =
+      let o : (x : Object) × (slice_get w.heap f ≡ Some x) = some_at w.heap f small in
+      block_by o.0 o.1 (subst (λ x. BodyLaw c x o.0) m (l.law.bodies f o.0 o.1))
 
 -- ---- the start: nothing is marked, and no function or generator is there
 
@@ -377,26 +594,17 @@ once_asked w (opend.Raise n args) p = tt
 once_asked w (opend.Stop kind) p = tt
 once_asked w e p = absurd p
 
--- a class's block fits a call
-call_fits : (w : World) (f names : ℕ) → f < length w.heap → names < length w.heap → fits op.Call w (value.Obj f ∷ value.Obj names ∷ []) ≡ true
-call_fits w f names p q =
-    let a : nat_lt f (length w.heap) ≡ true = is_in_true w.heap (value.Obj f) p in
-    let b : nat_lt names (length w.heap) ≡ true = is_in_true w.heap (value.Obj names) q in
-    rw (a, b) refl
-
 pub table_law : DoingsKeepSound → FinishingKeepsSound → TheStartIsSound → KeepsLaw table_rules
 table_law sound finishing_sound start = record {
   fits = λ o w args s e. e;
   truth = λ o w args g e. row_true o w args g;
   makes = λ o w args e. row_makes o w args;
   apply = λ c o w marks args l e q.
-      row_left sound c w marks l o args e (row_right (opens marks) w (closed_open c w marks l) (group o) o args (handed_given marks o args q));
+      row_left sound c w marks l o args e (doing_right (opens marks) w (closed_open c w marks l) (group o) o args (handed_given marks o args q));
   dict = λ w. inl (record { end = refl; heap = refl });
-  func = λ c w marks code tuple dict cells l e p q r. inr (stop.Unbuilt, refl, refl);
-  block = λ c w marks f names b l m p a n.
-      let args : List Value = value.Obj f ∷ value.Obj names ∷ [] in
-      row_left sound c w marks l op.Call args (call_fits w f names p a.there) (plain_right (opens marks) w (closed_open c w marks l) _ (call_plain w.heap args));
-  bind = λ c w marks f args a l i p q. (left c w marks l nothing (record { end = tt; set = tt; made = tt }) (l.sound, tt) tt, tt);
+  func = λ c w marks code tuple dict cells l e p q r. func_makes c w marks l code tuple dict cells r;
+  block = λ c w marks f names b l m p a n. block_left c w marks l f names m p;
+  bind = λ c w marks f args a l i p q. (idle_left c w marks l, tt);
   finish = λ c w marks a v l p i.
       let d : Doing = finishing a w.heap v in
       let k : Closed (opens marks) w = closed_open c w marks l in

@@ -1,3 +1,1 @@
 mod Keywords
-mod Begun
-mod Placed

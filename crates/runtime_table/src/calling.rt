@@ -6,15 +6,19 @@ ghost use Rattle.op_forms.specs.declared.op.Op.TheVariants as op;
 ghost use Rattle.op_forms.specs.Doing.{Did, DidIn};
 ghost use Rattle.op_rules.specs.Routes as routes;
 ghost use Rattle.op_rules.specs.Table as spec;
+ghost use Rattle.op_rules.specs.TextCalls as texts;
 
 use crate::routes::{is_empty_dict, value_route};
 use crate::table::{row_of, unbuilt};
-use nu_run::StopKind;
 use nu_text::RcStr;
-use nu_value::{Heap, Names, Object, Value};
+use nu_value::{Codes, Heap, Names, Object, Value};
 use op_forms::{Op, OpEnd, World};
 use op_rules::{Family, Route};
 use rt_call::{apply_call, call_value, items_of, names_of, object_of};
+use rt_class::call_class;
+use rt_dict::call_dict;
+use rt_seq::call_seq;
+use rt_text::{call_text, show_call};
 use std::alloc::{AllocError, Global};
 
 // The name of a built-in; a class is one by its own name.
@@ -37,19 +41,44 @@ fn builtin_receiver(object: Option<&Object>) -> Result<Value, AllocError>
     }
 }
 
+// The native that shows values needs the names of the program's functions.
+fn text_builtin(
+    alloc: Global,
+    heap: &mut Heap,
+    codes: &Codes,
+    name: &str,
+    receiver: &Value,
+    args: &[Value],
+    names: &Names,
+) -> Result<OpEnd, AllocError>
+    ensures { IfOk result (λ e. Did (texts.text_builtin codes.now heap.old name.now receiver.now args.now names.now) heap.old heap.new e) }
+{
+    match (receiver, names.as_slice()) {
+        (Value::Unset, []) if name == "_nu_text" => show_call(alloc, codes, heap, args),
+        _ => call_text(alloc, heap, name, receiver, args, names),
+    }
+}
+
 // A built-in of a family is called.
 fn builtin_call(
-    _alloc: Global,
-    _family: Family,
-    _heap: &mut Heap,
-    _name: &str,
-    _receiver: &Value,
-    _args: &[Value],
-    _names: &Names,
+    alloc: Global,
+    family: Family,
+    heap: &mut Heap,
+    codes: &Codes,
+    name: &str,
+    receiver: &Value,
+    args: &[Value],
+    names: Names,
 ) -> Result<OpEnd, AllocError>
-    ensures { IfOk result (λ e. Did (spec.builtin_call _family _heap.old _name.now _receiver.now _args.now _names.now) _heap.old _heap.new e) }
+    ensures { IfOk result (λ e. Did (spec.builtin_call family codes.now heap.old name.now receiver.now args.now names) heap.old heap.new e) }
 {
-    Ok(OpEnd::Stop(StopKind::Unbuilt))
+    match family {
+        Family::Classes => call_class(alloc, heap, name, receiver, args, &names),
+        Family::Dicts => call_dict(alloc, heap, name, receiver, args, names),
+        Family::Sequences => call_seq(alloc, heap, name, receiver, args, names),
+        Family::Texts => text_builtin(alloc, heap, codes, name, receiver, args, &names),
+        Family::Integers => unbuilt(),
+    }
 }
 
 fn builtin_called(
@@ -58,9 +87,9 @@ fn builtin_called(
     world: &mut World,
     function: &Value,
     args: &[Value],
-    names: &Names,
+    names: Names,
 ) -> Result<OpEnd, AllocError>
-    ensures { IfOk result (λ e. DidIn (spec.builtin_called family world.old.heap (same.object_of world.old.heap function.now) args.now names.now) world.old world.new e) }
+    ensures { IfOk result (λ e. DidIn (spec.builtin_called family world.old.codes world.old.heap (same.object_of world.old.heap function.now) args.now names) world.old world.new e) }
 {
     let object = object_of(&world.heap, function);
     let name = builtin_name(alloc, object)?;
@@ -69,6 +98,7 @@ fn builtin_called(
         alloc,
         family,
         &mut world.heap,
+        &world.codes,
         name.as_str(),
         &receiver,
         args,
@@ -86,8 +116,7 @@ pub fn call(alloc: Global, world: &mut World, args: &[Value]) -> Result<OpEnd, A
     match value_route(&world.heap, function, true, given) {
         Route::Operation(op) => row_of(alloc, op, world, given),
         Route::BuiltIn(family) => {
-            let names = Names::new(alloc);
-            builtin_called(alloc, family, world, function, given, &names)
+            builtin_called(alloc, family, world, function, given, Names::new(alloc))
         }
         Route::Itself => apply_call(alloc, Op::Call, &mut world.heap, &world.codes, args),
     }
@@ -111,7 +140,7 @@ pub fn callx(alloc: Global, world: &mut World, args: &[Value]) -> Result<OpEnd, 
             world,
             function,
             items.as_slice(),
-            &names,
+            names,
         ),
         Route::Itself => call_value(alloc, &mut world.heap, function, items, names),
     }

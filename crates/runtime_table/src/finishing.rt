@@ -16,6 +16,7 @@ use nu_value::{Heap, Integer, Object, Value};
 use op_forms::{After, OpEnd, World};
 use op_rules::{finishing_keeps_sound, raised};
 use rt_call::{copied, object_of};
+use rt_text::join_after;
 use std::alloc::{AllocError, Global};
 
 const TYPE_ERROR: u64 = 35;
@@ -80,8 +81,8 @@ fn tuple(alloc: Global, heap: &mut Heap, value: &Value) -> Result<OpEnd, AllocEr
     Ok(OpEnd::Give(Value::Obj(number)))
 }
 
-/// What becomes of the value of a function, where no list is asked for.
-pub fn value_after(alloc: Global, after: After, value: Value) -> Result<OpEnd, AllocError>
+// What becomes of a value, where no list is asked for.
+fn value_after(alloc: Global, after: After, value: Value) -> Result<OpEnd, AllocError>
     ensures { IfOk result (λ e. e ≡ spec.value_after after value) }
 {
     match after {
@@ -104,6 +105,7 @@ fn finished(
 {
     match after {
         After::Tuple => tuple(alloc, &mut world.heap, &value),
+        After::Join(text) => join_after(alloc, &world.heap, &text, &value),
         after => value_after(alloc, after, value),
     }
 }
