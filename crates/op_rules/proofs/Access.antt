@@ -1,5 +1,5 @@
 -- The rows on values without items use only what they are given.
-use Rattle.std.proofs.Common.{ℕ, List, [], ◌∷◌, Option, Some, None, lit<}
+use Rattle.std.proofs.Common.{ℕ, List, [], ◌∷◌, Option, Some, lit<}
 use Rattle.std.specs.Prelude.{slice_get}
 use Rattle.nu_value.specs.declared.object.Object.{Object}
 use Rattle.nu_value.specs.declared.object.Object.TheVariants as object

@@ -4,7 +4,7 @@ use mathlib.Core.List.{reverse_aux}
 use Rattle.std.specs.Prelude.{ℤ, pos, negsuc, ◌+ℤ◌, slice_get, slice_set, reverse, remove, insert}
 use Rattle.std.specs.Option.{option_to_list}
 use Rattle.nu_value.specs.declared.value.Value.{Value}
-use Rattle.op_forms.specs.Parts.{AllOf, PairsOf, ValueOf}
+use Rattle.op_forms.specs.Parts.{AllOf, ValueOf}
 use Rattle.op_rules.specs.Items.{item_at}
 use Rattle.op_rules.specs.SequenceOperators.{repeats}
 use Rattle.op_rules.specs.Slices.{item_from, picked}

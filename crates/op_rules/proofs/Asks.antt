@@ -10,7 +10,7 @@ use Rattle.op_forms.specs.declared.end.After.{After}
 use Rattle.op_forms.specs.declared.world.World.{World}
 use Rattle.op_forms.specs.Answers.{names_of}
 use Rattle.op_forms.specs.Parts.{AllOf, NamesOf, ValueOf}
-use Rattle.op_forms.specs.Right.{Claim, Known, Closed, AfterOf, AskOf, EndOf}
+use Rattle.op_forms.specs.Right.{Claim, Known, Closed, AfterOf, EndOf}
 use Rattle.op_forms.specs.Sound.{AFunction, IsA, AreNamesDistinct}
 use Rattle.op_forms.proofs.Bindings.{value_of}
 use Rattle.op_rules.specs.Asking.{built_ins, function_at, function_of, built_in, asked, asks}

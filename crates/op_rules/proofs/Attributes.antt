@@ -15,7 +15,7 @@ use Rattle.nu_value.specs.Same.{object_of}
 use Rattle.op_forms.specs.declared.end.OpEnd.TheVariants as opend
 use Rattle.op_forms.specs.declared.world.World.{World}
 use Rattle.op_forms.specs.Answers.{unbuilt}
-use Rattle.op_forms.specs.Doing.{Bind, Unbind, Doing, nothing, ends, gives, changes, makes}
+use Rattle.op_forms.specs.Doing.{Bind, Unbind, Doing, nothing, ends, changes, makes}
 use Rattle.op_forms.specs.Parts.{AllOf, ValueOf}
 use Rattle.op_forms.specs.Right.{Claim, Known, Closed, EndOf, Right}
 use Rattle.op_forms.proofs.Bindings.{value_of}

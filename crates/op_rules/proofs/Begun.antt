@@ -1,9 +1,8 @@
 -- A function that is asked is bound to what it may be, and begins with a value for each parameter.
 use Rattle.std.proofs.Common.{◌≡◌, ℕ, zero, suc, ◌+◌, ◌-◌, List, [], ◌∷◌, ◌++◌, Option, Some, None, Bool, true, false, refl, subst, ◌∙◌, ap, sym, arith, length, lit<}
-use Rattle.std.specs.Prelude.{◌&&◌, ◌||◌, not, ℤ, pos, codes, if◌then◌else◌, nat_eq, nat_lt, nat_le, int_lt, slice_get}
+use Rattle.std.specs.Prelude.{◌&&◌, ◌||◌, not, ℤ, pos, if◌then◌else◌, nat_lt, nat_le, int_lt, slice_get}
 use Rattle.std.specs.Ordering.{int_eq}
 use Rattle.std.proofs.Math.ListN.{drop}
-use Rattle.std.specs.Str.{bytes_eq}
 use Rattle.nu_value.specs.declared.header.Header.{Header}
 use Rattle.nu_value.specs.declared.header.ParamKind.{ParamKind}
 use Rattle.nu_value.specs.declared.header.ParamKind.TheVariants as param
@@ -14,7 +13,7 @@ use Rattle.nu_value.specs.declared.object.Object.TheVariants as object
 use Rattle.nu_value.specs.declared.value.Value.{Value}
 use Rattle.nu_value.specs.declared.value.Value.TheVariants as value
 use Rattle.nu_value.specs.Classes.{first_of}
-use Rattle.nu_value.specs.Names.{NameList, value_at}
+use Rattle.nu_value.specs.Names.{NameList}
 use Rattle.nu_value.specs.Pairs.{PairList}
 use Rattle.nu_value.specs.Same.{number_of}
 use Rattle.op_forms.specs.declared.end.After.{After}
@@ -25,7 +24,7 @@ use Rattle.op_forms.specs.declared.world.World.{World}
 use Rattle.op_forms.specs.Doing.{Doing}
 use Rattle.op_forms.specs.Parts.{AllOf, NamesOf, PairsOf, ValueOf, PartsOf}
 use Rattle.op_forms.specs.Right.{Claim, KnownObject, Known, Closed, AfterOf, EndOf, MadeOf, News, NewOf, Begins, Takes, Right}
-use Rattle.op_forms.specs.Sound.{AreNamesDistinct, AreKeysDistinct, AreKeyed, LinksIn}
+use Rattle.op_forms.specs.Sound.{AreKeysDistinct, AreKeyed, LinksIn}
 use Rattle.op_forms.proofs.Bindings.{value_of}
 use Rattle.op_forms.proofs.Dicts.{distinct_put, keyed_put, pairs_with}
 use Rattle.op_rules.specs.declared.binding.Named.{Named}
@@ -35,7 +34,7 @@ use Rattle.op_rules.specs.declared.binding.Bound.TheVariants.{Ready, Raise, Stop
 use Rattle.op_rules.specs.Binding.{ParamList, Call, is_placed, is_star, is_double, one_if, places, has_star, has_double, named, is_at, is_key, refused, keyword_error, first_error, keywords_error, default_of, value_if, value_for, Values, All, Missing, and_one, with_one, values_from, dict_number, left_one, left_over, star_tuple, double_dict, collected, fits_star, bound_values, bound_or, binding, call_of, made_by, generator_of, generator_if, begun, bound_code, bound_object, bind, bound_end}
 use Rattle.op_rules.specs.Comparisons.{give_bool}
 use Rattle.op_rules.specs.Finish.{truth_after, length_after, is_none, made_after, value_after}
-use Rattle.op_rules.proofs.Plain.{IsPlain, plain_end, truth_after_plain, length_after_plain}
+use Rattle.op_rules.proofs.Plain.{plain_end, truth_after_plain, length_after_plain}
 use Rattle.op_rules.proofs.Usual.{ended, idle, fails, if_end}
 
 abbrev IfTrue : Bool → Type 0 → Type 0

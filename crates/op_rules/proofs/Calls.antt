@@ -1,6 +1,6 @@
 -- Calls, and functions that are made, use only what they are given, what they find there and what they make.
 use Rattle.std.proofs.Common.{◌≡◌, ℕ, ◌<◌, List, [], ◌∷◌, Option, Some, None, Bool, true, false, refl, subst, ap, arith, length, lit<}
-use Rattle.std.specs.Prelude.{◌&&◌, ◌||◌, not, ℤ, pos, negsuc, codes, if◌then◌else◌, nat_eq, nat_lt, slice_get}
+use Rattle.std.specs.Prelude.{◌&&◌, not, ℤ, pos, negsuc, codes, if◌then◌else◌, nat_eq, nat_lt, slice_get}
 use Rattle.std.specs.Ordering.{int_eq}
 use Rattle.std.specs.Str.{bytes_eq}
 use Rattle.std.proofs.lemmas.Bool.Decides.{nat_tests}
@@ -10,15 +10,13 @@ use Rattle.nu_value.specs.declared.object.Object.TheVariants as object
 use Rattle.nu_value.specs.declared.value.Value.{Value}
 use Rattle.nu_value.specs.declared.value.Value.TheVariants as value
 use Rattle.nu_value.specs.Classes.{own_of, first_of, first_named, classes_from, found_in}
-use Rattle.nu_value.specs.Names.{NameList, value_at}
+use Rattle.nu_value.specs.Names.{NameList}
 use Rattle.nu_value.specs.Pairs.{PairList}
 use Rattle.nu_value.specs.Same.{number_of, object_of}
 use Rattle.op_forms.specs.declared.end.After.{After}
 use Rattle.op_forms.specs.declared.end.After.TheVariants as behind
-use Rattle.op_forms.specs.declared.end.OpEnd.{OpEnd}
-use Rattle.op_forms.specs.declared.end.OpEnd.TheVariants as opend
 use Rattle.op_forms.specs.declared.world.World.{World}
-use Rattle.op_forms.specs.Doing.{Doing, nothing, ends, makes}
+use Rattle.op_forms.specs.Doing.{nothing, ends, makes}
 use Rattle.op_forms.specs.Fits.{is_cell}
 use Rattle.op_forms.specs.Parts.{AllOf, NamesOf, PairsOf, ValueOf, OrUnset, PartsOf}
 use Rattle.op_forms.specs.Right.{Claim, Known, Closed, RestOf, AfterOf, EndOf, NewOf, Right}
@@ -29,7 +27,7 @@ use Rattle.op_rules.specs.declared.callees.Method.TheVariants as method
 use Rattle.op_rules.specs.Asking.{asks}
 use Rattle.op_rules.specs.Kinds.{value_error}
 use Rattle.op_rules.specs.Calls.{keyword_into, keywords_of, items_at, keywords_at, call_class, call_by, call_builtin, call_object, call_value, are_cells, code_of, func_made, func_by, func_row}
-use Rattle.op_rules.specs.Construction.{method_as, object_at, method_in, is_exception_class, made_of, takes_keywords, exception_made, instance_made, plainly_made, natively_made, made_by_function, made_with, construct, object_row, range_by, range_row, is_left_out, native_class}
+use Rattle.op_rules.specs.Construction.{method_as, object_at, method_in, is_exception_class, made_of, takes_keywords, exception_made, instance_made, plainly_made, natively_made, made_with, construct, object_row, range_by, range_row, is_left_out, native_class}
 use Rattle.op_rules.specs.NativeCalls.{text_of, printed, print_row, written, write_row, line_row, is_nextable, nextable_row, resume_on, resume_row, getattr_row, length_row, native_end, native_called}
 use Rattle.op_rules.proofs.Asks.{asks_right}
 use Rattle.op_rules.proofs.Usual.{ended, fails, failed, idle, made_right, if_right, if_end}

@@ -1,5 +1,5 @@
 -- Calls of natives on classes and of the methods of generators use only what they are given, what is there and what they make.
-use Rattle.std.proofs.Common.{ℕ, List, [], ◌∷◌, Option, Some, None, lit<}
+use Rattle.std.proofs.Common.{ℕ, List, [], ◌∷◌, Option, Some, lit<}
 use Rattle.std.specs.Prelude.{codes, slice_get}
 use Rattle.std.specs.Str.{bytes_eq}
 use Rattle.nu_value.specs.declared.object.Object.{Object}
@@ -13,8 +13,7 @@ use Rattle.op_forms.specs.Doing.{Doing, gives, makes}
 use Rattle.op_forms.specs.Parts.{AllOf, OrUnset}
 use Rattle.op_forms.specs.Right.{Claim, Known, Closed, EndOf, Right}
 use Rattle.op_forms.specs.Sound.{AGenerator, IsA}
-use Rattle.op_rules.specs.Attributes.{method_of}
-use Rattle.op_rules.specs.ClassCalls.{type_row, issubclass_on, issubclass_row, isinstance_row, is_callable, callable_row, kind_of, kind_row, setattr_call, init_or_none, special_method, special_call, args_on, with_one, with_two, with_three, asking_call, native_call, send_call, close_call, throw_call, generator_call, method_on, method_call}
+use Rattle.op_rules.specs.ClassCalls.{type_row, issubclass_on, issubclass_row, isinstance_row, is_callable, callable_row, kind_of, kind_row, setattr_call, init_or_none, special_call, args_on, with_one, with_two, with_three, asking_call, native_call, send_call, close_call, throw_call, generator_call, method_on, method_call}
 use Rattle.op_rules.specs.Specials.{any_special, special_length}
 use Rattle.op_rules.specs.Subclasses.{class_of}
 use Rattle.op_rules.proofs.Asks.{asks_right}

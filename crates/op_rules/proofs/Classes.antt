@@ -1,5 +1,5 @@
 -- The rows on classes, instances and exceptions use only what they are given, what they find there and what they make.
-use Rattle.std.proofs.Common.{ℕ, List, [], ◌∷◌, Option, Some, None, Bool, true, false, lit<}
+use Rattle.std.proofs.Common.{ℕ, List, [], ◌∷◌, Option, Some, Bool, true, false, lit<}
 use Rattle.std.specs.Prelude.{slice_get}
 use Rattle.nu_value.specs.declared.object.Object.{Object}
 use Rattle.nu_value.specs.declared.object.Object.TheVariants as object

@@ -1,6 +1,6 @@
 -- Calls of the methods of dicts use only what they are given, what they find there and what they make.
-use Rattle.std.proofs.Common.{ℕ, List, [], ◌∷◌, Option, Some, None, Ok, Err, Bool, true, false, inl}
-use Rattle.std.specs.Prelude.{codes, slice_get, if◌then◌else◌, remove}
+use Rattle.std.proofs.Common.{ℕ, List, [], ◌∷◌, Option, Some, None, Ok, Err, inl}
+use Rattle.std.specs.Prelude.{codes, slice_get, remove}
 use Rattle.std.specs.Str.{bytes_eq}
 use Rattle.nu_value.specs.declared.key.Atom.{Atom}
 use Rattle.nu_value.specs.declared.object.Object.{Object}
@@ -14,7 +14,7 @@ use Rattle.nu_value.specs.Pairs.{PairList, found_at, key_place, mapped_value, wi
 use Rattle.op_forms.specs.declared.end.OpEnd.{OpEnd}
 use Rattle.op_forms.specs.declared.end.OpEnd.TheVariants as opend
 use Rattle.op_forms.specs.declared.world.World.{World}
-use Rattle.op_forms.specs.Doing.{Put, Fit, Doing, nothing, ends}
+use Rattle.op_forms.specs.Doing.{Put, Fit, Doing}
 use Rattle.op_forms.specs.Parts.{AllOf, NamesOf, PairsOf, ValueOf, OrUnset}
 use Rattle.op_forms.specs.Right.{Claim, KnownObject, Known, Closed, EndOf, Right}
 use Rattle.op_forms.specs.Sound.{AreNamesDistinct, HasKey, AreKeysDistinct, AreKeyed}

@@ -1,7 +1,6 @@
 -- The rows on dicts and their views use only what they are given, what they find there and what they make.
-use Rattle.std.proofs.Common.{◌≡◌, ℕ, List, [], ◌∷◌, Option, Some, None, Ok, Err, Bool, true, false, refl, sym, subst, lit<, inl, inr}
-use Rattle.std.specs.Prelude.{◌⊎◌, codes, slice_get, if◌then◌else◌, remove}
-use Rattle.nu_value.specs.declared.key.Atom.{Atom}
+use Rattle.std.proofs.Common.{◌≡◌, ℕ, List, [], ◌∷◌, Option, Some, None, Ok, Err, true, refl, sym, subst, lit<, inl, inr}
+use Rattle.std.specs.Prelude.{◌⊎◌, codes, slice_get, remove}
 use Rattle.nu_value.specs.declared.key.Atom.TheVariants as atom
 use Rattle.nu_value.specs.declared.object.Object.{Object}
 use Rattle.nu_value.specs.declared.object.Object.TheVariants as object
@@ -15,11 +14,11 @@ use Rattle.op_forms.specs.declared.end.OpEnd.{OpEnd}
 use Rattle.op_forms.specs.declared.op.Op.{Op}
 use Rattle.op_forms.specs.declared.op.Op.TheVariants as op
 use Rattle.op_forms.specs.declared.world.World.{World}
-use Rattle.op_forms.specs.Doing.{Put, Fit, ends}
+use Rattle.op_forms.specs.Doing.{Put, Fit}
 use Rattle.op_forms.specs.Fits.{are_texts, is_dict, is_list}
 use Rattle.op_forms.specs.Parts.{AllOf, NamesOf, PairsOf, OrUnset}
 use Rattle.op_forms.specs.Right.{Claim, KnownObject, Known, Closed, Given, EndOf, KeepsTexts, Right}
-use Rattle.op_forms.specs.Sound.{AreNamesDistinct, HasKey, AreKeysDistinct, AreKeyed}
+use Rattle.op_forms.specs.Sound.{AreNamesDistinct, AreKeysDistinct, AreKeyed}
 use Rattle.op_forms.proofs.Dicts.{distinct_put, keyed_put, pairs_with}
 use Rattle.op_rules.specs.Dicts as spec
 use Rattle.op_rules.specs.IntRows.{of_one, of_two}

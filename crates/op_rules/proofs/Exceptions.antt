@@ -1,5 +1,5 @@
 -- Exceptions are made, raised and matched with nothing but what is given, what is there and what is made.
-use Rattle.std.proofs.Common.{ℕ, List, [], ◌∷◌, Option, Some, None, Bool, true, false, length, lit<, inr}
+use Rattle.std.proofs.Common.{ℕ, Option, Some, None, Bool, true, false, length, lit<, inr}
 use Rattle.std.specs.Prelude.{codes, if◌then◌else◌, slice_get}
 use Rattle.std.specs.List.{list_all, list_any}
 use Rattle.nu_value.specs.declared.object.Object.{Object}
@@ -10,14 +10,14 @@ use Rattle.nu_value.specs.Classes.{is_under, found_in}
 use Rattle.nu_value.specs.Natives.{baseexception_number}
 use Rattle.nu_value.specs.Same.{object_of}
 use Rattle.op_forms.specs.declared.world.World.{World}
-use Rattle.op_forms.specs.Doing.{nothing, ends, makes}
+use Rattle.op_forms.specs.Doing.{ends, makes}
 use Rattle.op_forms.specs.Parts.{PartsOf, ValueOf}
 use Rattle.op_forms.specs.Right.{Claim, Known, Closed, NewOf, EndOf, Right}
 use Rattle.op_forms.specs.Sound.{AClass, AFunction, IsA, LinksIn}
 use Rattle.op_rules.specs.declared.special.Init.{Init}
 use Rattle.op_rules.specs.declared.special.Init.TheVariants as init
 use Rattle.op_rules.specs.Comparisons.{give_bool}
-use Rattle.op_rules.specs.Exceptions.{bare, is_plain_init, init_as, init_in, exception_asking, exception_by, exception_of, no_exception, exc_on, exc_row, raise_on, raise_row, no_catching, matches, classes_in, match_row, trace_on, trace_row}
+use Rattle.op_rules.specs.Exceptions.{bare, is_plain_init, init_as, init_in, exception_asking, exception_by, exception_of, no_exception, exc_on, exc_row, raise_on, raise_row, no_catching, classes_in, match_row, trace_on, trace_row}
 use Rattle.op_rules.specs.Specials.{found_object}
 use Rattle.op_rules.specs.Subclasses.{class_of, is_exception_class, is_under_value}
 use Rattle.op_rules.proofs.Specials.{found_known}

@@ -13,19 +13,17 @@ use Rattle.nu_value.specs.Pairs.{PairList}
 use Rattle.nu_value.specs.Ranges.{range_count}
 use Rattle.op_rules.specs.declared.arithmetic.Computed.{Computed}
 use Rattle.op_rules.specs.declared.arithmetic.Computed.TheVariants as computed
-use Rattle.op_forms.specs.declared.end.OpEnd.{OpEnd}
 use Rattle.op_forms.specs.declared.world.World.{World}
-use Rattle.op_forms.specs.Doing.{Move, Finish, Doing, ends}
+use Rattle.op_forms.specs.Doing.{Move, Doing}
 use Rattle.op_forms.specs.Parts.{AllOf, PairsOf, ValueOf}
 use Rattle.op_forms.specs.Right.{Claim, Known, Closed, EndOf, Right}
 use Rattle.op_forms.specs.Sound.{Sort, ATuple, AList, ARange, IsA, Iterates}
-use Rattle.op_rules.specs.Iteration.{iterates, iter_on, iter_row, number_within, pair_from, given_of, mapped_of, finishes, advanced, passes, advanced_making, passes_pair, size_changed, while_sized, next_shown, next_viewed, next_in, next_over, next_on, next_row, stop_iteration}
+use Rattle.op_rules.specs.Iteration.{iterates, iter_on, iter_row, number_within, pair_from, given_of, mapped_of, advanced, passes, advanced_making, passes_pair, while_sized, next_shown, next_viewed, next_in, next_over, next_on, next_row, stop_iteration}
 use Rattle.op_rules.specs.Items.{number_at}
 use Rattle.op_rules.specs.Numbers.{sum}
-use Rattle.op_rules.specs.Slices.{item_from}
 use Rattle.op_rules.specs.TextItems.{text_item}
 use Rattle.op_rules.proofs.AllItems.{from_of}
-use Rattle.op_rules.proofs.Usual.{ended, fails, failed, idle, given_right, giving_right, made_right, if_right}
+use Rattle.op_rules.proofs.Usual.{ended, failed, idle, given_right, giving_right, made_right, if_right}
 
 module _ (c : Claim) (w : World) (k : Closed c w) where
   -- ---- `iter`

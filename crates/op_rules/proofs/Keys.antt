@@ -1,5 +1,5 @@
 -- A key of a value that is there, or an end that uses only what it is given.
-use Rattle.std.proofs.Common.{◌≡◌, ℕ, List, [], ◌∷◌, Result, Ok, Err, Bool, true, false, refl, arith, length, lit<, inl}
+use Rattle.std.proofs.Common.{◌≡◌, List, Ok, Err, Bool, true, false, refl, arith, length, lit<, inl}
 use Rattle.std.specs.Prelude.{if◌then◌else◌}
 use Rattle.std.proofs.lemmas.Bool.Decides.{nat_tests}
 use Rattle.nu_value.specs.declared.keyed.KeyEnd.{KeyEnd}
@@ -8,7 +8,6 @@ use Rattle.nu_value.specs.declared.object.Object.{Object}
 use Rattle.nu_value.specs.declared.value.Value.{Value}
 use Rattle.nu_value.specs.declared.value.Value.TheVariants as value
 use Rattle.nu_value.specs.Keyed.{Keyed, key}
-use Rattle.op_forms.specs.declared.end.OpEnd.{OpEnd}
 use Rattle.op_forms.specs.declared.world.World.{World}
 use Rattle.op_forms.specs.Answers.{unbuilt}
 use Rattle.op_forms.specs.Fits.{is_in}

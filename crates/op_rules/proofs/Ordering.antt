@@ -1,5 +1,5 @@
 -- What the order of two values comes to names no objects.
-use Rattle.std.proofs.Common.{ℕ, zero, suc, List, [], ◌∷◌, Option, Some, None, length, lit<}
+use Rattle.std.proofs.Common.{ℕ, zero, suc, List, [], ◌∷◌, Option, Some, lit<}
 use Rattle.nu_value.specs.declared.object.Object.{Object}
 use Rattle.nu_value.specs.declared.object.Object.TheVariants as object
 use Rattle.nu_value.specs.declared.same.Sameness.{Sameness}

@@ -1,5 +1,5 @@
 -- What a call is routed to gets what it may be given.
-use Rattle.std.proofs.Common.{ℕ, List, [], ◌∷◌, Option, Some, None, Bool, true, false}
+use Rattle.std.proofs.Common.{ℕ, List, [], ◌∷◌, Option, Some, Bool, true, false}
 use Rattle.std.specs.Prelude.{codes, if◌then◌else◌, nat_eq, slice_get}
 use Rattle.std.specs.Str.{bytes_eq}
 use Rattle.nu_value.specs.declared.object.Object.{Object}
@@ -13,7 +13,7 @@ use Rattle.op_forms.specs.declared.world.World.{World}
 use Rattle.op_forms.specs.Parts.{AllOf, NamesOf, OrUnset}
 use Rattle.op_forms.specs.Right.{Claim, Known, Closed, Given, CallOf}
 use Rattle.op_rules.specs.declared.callees.Route.{Route}
-use Rattle.op_rules.specs.declared.callees.Route.TheVariants.{Operation, BuiltIn, Itself}
+use Rattle.op_rules.specs.declared.callees.Route.TheVariants.{Operation}
 use Rattle.op_rules.specs.declared.family.Family.{Family}
 use Rattle.op_rules.specs.declared.family.Family.TheVariants as family
 use Rattle.op_rules.specs.Calls.{items_at, keywords_at, callee, given_args, given_names}

@@ -10,7 +10,6 @@ use Rattle.nu_value.specs.Same.{object_of}
 use Rattle.op_forms.specs.declared.end.After.{After}
 use Rattle.op_forms.specs.declared.end.After.TheVariants as behind
 use Rattle.op_forms.specs.declared.end.OpEnd.{OpEnd}
-use Rattle.op_forms.specs.declared.end.OpEnd.TheVariants as opend
 use Rattle.op_forms.specs.declared.op.Op.{Op}
 use Rattle.op_forms.specs.declared.op.Op.TheVariants as op
 use Rattle.op_forms.specs.declared.world.World.{World}
@@ -40,7 +39,7 @@ use Rattle.op_rules.proofs.TextCalls.{text_builtin_right}
 use Rattle.op_rules.proofs.TextPlain.{join_after_plain}
 use Rattle.op_rules.proofs.Plain.{plain_right}
 use Rattle.op_rules.proofs.Begun.{value_end}
-use Rattle.op_rules.proofs.Usual.{ended, fails, failed, idle, given_right, change_right, made_right, if_end}
+use Rattle.op_rules.proofs.Usual.{ended, fails, failed, idle, change_right, made_right}
 
 module _ (c : Claim) (w : World) (k : Closed c w) where
   -- ---- names

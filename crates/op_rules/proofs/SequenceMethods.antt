@@ -11,7 +11,6 @@ use Rattle.nu_value.specs.declared.value.Value.{Value}
 use Rattle.nu_value.specs.declared.value.Value.TheVariants as value
 use Rattle.nu_value.specs.Names.{NameList}
 use Rattle.nu_value.specs.Same.{eq, number_of}
-use Rattle.op_forms.specs.declared.end.After.TheVariants as behind
 use Rattle.op_forms.specs.declared.end.OpEnd.{OpEnd}
 use Rattle.op_forms.specs.declared.world.World.{World}
 use Rattle.op_forms.specs.Doing.{Fill, Doing}
@@ -19,7 +18,7 @@ use Rattle.op_forms.specs.Parts.{AllOf, NamesOf, ValueOf}
 use Rattle.op_forms.specs.Right.{Claim, Known, Closed, EndOf, Right}
 use Rattle.op_forms.specs.Sound.{AreNamesDistinct}
 use Rattle.op_rules.specs.Items.{place_in}
-use Rattle.op_rules.specs.SequenceMethods.{append_method, taken_at, taken, pop_error, pop_at, pop_method, insert_place, insert_at, insert_method, extend_method, sort_method, removed, remove_method, index_end, index_method, counted_by, count_from, count_method, reverse_method, clear_method, copy_method, plain_method, without_keywords, list_method, tuple_method, method_on}
+use Rattle.op_rules.specs.SequenceMethods.{append_method, taken_at, taken, pop_error, pop_at, pop_method, insert_place, insert_at, insert_method, extend_method, sort_method, removed, remove_method, index_end, index_method, counted_by, count_from, count_method, reverse_method, clear_method, copy_method, plain_method, without_keywords, tuple_method, method_on}
 use Rattle.op_rules.specs.SequenceOperators.{place_of_value}
 use Rattle.op_rules.proofs.AllItems.{get_of, insert_of, remove_of, reverse_of}
 use Rattle.op_rules.proofs.AskedValues.{two_right, all_right}

@@ -5,7 +5,6 @@ use Rattle.std.specs.Str.{bytes_eq}
 use Rattle.nu_value.specs.declared.value.Value.{Value}
 use Rattle.nu_value.specs.declared.value.Value.TheVariants as value
 use Rattle.nu_value.specs.Names.{NameList}
-use Rattle.op_forms.specs.declared.end.After.TheVariants as behind
 use Rattle.op_forms.specs.declared.op.Op.{Op}
 use Rattle.op_forms.specs.declared.signature.ArgumentKind.{ArgumentKind}
 use Rattle.op_forms.specs.declared.signature.ArgumentKind.TheVariants as kind

@@ -13,7 +13,7 @@ use Rattle.op_forms.specs.declared.world.World.{World}
 use Rattle.op_forms.specs.Doing.{makes}
 use Rattle.op_forms.specs.Parts.{AllOf}
 use Rattle.op_forms.specs.Right.{Claim, Known, Closed, EndOf, Right}
-use Rattle.op_rules.specs.Slices.{are_bounds, first_place, end_place, sliced, step_of, no_step, no_bound, refused, slice_or, slice_of, slice_on, slice_row}
+use Rattle.op_rules.specs.Slices.{are_bounds, first_place, end_place, sliced, step_of, no_step, refused, slice_or, slice_of, slice_on, slice_row}
 use Rattle.op_rules.proofs.AllItems.{picked_of}
 use Rattle.op_rules.proofs.Items.{list_right, tuple_right}
 use Rattle.op_rules.proofs.Usual.{ended, fails, failed, idle}

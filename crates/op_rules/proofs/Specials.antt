@@ -1,5 +1,5 @@
 -- Special methods are functions that may be asked; the rows that go by them use only what they are given and what they find.
-use Rattle.std.proofs.Common.{ℕ, List, [], ◌∷◌, Option, Some, None, true, false, lit<}
+use Rattle.std.proofs.Common.{ℕ, List, [], ◌∷◌, Option, Some, None, true, lit<}
 use Rattle.std.specs.Prelude.{codes, slice_get}
 use Rattle.nu_value.specs.declared.object.Object.{Object}
 use Rattle.nu_value.specs.declared.object.Object.TheVariants as object
@@ -31,7 +31,7 @@ use Rattle.op_rules.specs.Asking.{asks}
 use Rattle.op_rules.specs.Comparisons.{give_bool}
 use Rattle.op_rules.specs.IntRows.{of_one, of_two}
 use Rattle.op_rules.specs.Kinds.{no_operand, no_operands, no_order}
-use Rattle.op_rules.specs.Specials.{found_object, special_as, special_in, instance_special, any_special, asks_special, by_special, special_index, special_setindex, special_delindex, slice_on, special_next, truth_by_length, special_truth, special_length, has_view, may_unite, plain_pair, special_pair, special_order, of_three, of_four, special_row}
+use Rattle.op_rules.specs.Specials.{found_object, special_as, special_in, instance_special, any_special, asks_special, by_special, special_index, special_setindex, special_delindex, slice_on, special_next, special_truth, special_length, has_view, may_unite, plain_pair, special_pair, special_order, of_three, of_four, special_row}
 use Rattle.op_rules.proofs.Asks.{asks_right}
 use Rattle.op_rules.proofs.Usual.{fails, if_end}
 

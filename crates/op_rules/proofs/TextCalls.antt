@@ -1,6 +1,6 @@
 -- The methods of texts, and the natives on texts, use only what they are given, what they find there and what they make.
-use Rattle.std.proofs.Common.{ℕ, List, [], ◌∷◌, Option, Some, None, length, lit<}
-use Rattle.std.specs.Prelude.{codes, nat_le, slice_get, ◌==◌, map}
+use Rattle.std.proofs.Common.{ℕ, List, [], ◌∷◌, Option, Some, length, lit<}
+use Rattle.std.specs.Prelude.{codes, nat_le, ◌==◌}
 use Rattle.std.specs.Str.{bytes_eq}
 use Rattle.nu_value.specs.declared.object.Object.{Object}
 use Rattle.nu_value.specs.declared.object.Object.TheVariants as object
@@ -8,7 +8,6 @@ use Rattle.nu_value.specs.declared.value.Value.{Value}
 use Rattle.nu_value.specs.declared.value.Value.TheVariants as value
 use Rattle.nu_value.specs.Names.{NameList}
 use Rattle.nu_value.specs.Same.{object_of}
-use Rattle.op_forms.specs.declared.end.OpEnd.{OpEnd}
 use Rattle.op_forms.specs.declared.world.World.{World}
 use Rattle.op_forms.specs.Parts.{AllOf, NamesOf, OrUnset}
 use Rattle.op_forms.specs.Right.{Claim, Closed, EndOf, Right}

@@ -1,5 +1,5 @@
 -- Ends of the rows on texts that name no objects.
-use Rattle.std.proofs.Common.{ℕ, List, [], ◌∷◌, Option, Some, None, Bool, true, false, length, lit<}
+use Rattle.std.proofs.Common.{ℕ, List, [], ◌∷◌, Option, Some, None, Bool, true, false, lit<}
 use Rattle.std.specs.Prelude.{ℤ, pos, negsuc, codes, nat_eq, nat_le, nat_lt, ◌&&◌, option_map, slice_get, encode_utf8}
 use Rattle.std.specs.List.{list_all, list_any}
 use Rattle.std.specs.Ordering.{int_eq}
@@ -16,8 +16,8 @@ use Rattle.op_forms.specs.declared.end.OpEnd.{OpEnd}
 use Rattle.op_rules.specs.Items.{place_in, out_of_range}
 use Rattle.op_rules.specs.NameRows.{value_or}
 use Rattle.op_rules.specs.Numbers.{in_range}
-use Rattle.op_rules.specs.Numerals.{is_numeral, numeral_value, signed, read_digits, read_signed, is_beyond, read_int, int_from, int_of, number_of_one, ord_of, character_of, chr_from, chr_of}
-use Rattle.op_rules.specs.Quoting.{shown, shown_end, show_of, show_call, quote_of, quoted}
+use Rattle.op_rules.specs.Numerals.{is_numeral, numeral_value, signed, read_digits, read_signed, is_beyond, int_from, int_of, number_of_one, ord_of, character_of, chr_from, chr_of}
+use Rattle.op_rules.specs.Quoting.{shown, shown_end, show_call, quote_of, quoted}
 use Rattle.op_rules.specs.Slices.{are_bounds, step_of}
 use Rattle.op_rules.specs.TextAccess.{item_at, text_index, text_slice, in_text}
 use Rattle.op_rules.specs.TextCalls.{len_of, native_of_one, text_native}

@@ -1,5 +1,5 @@
 -- The rows on dicts and views that change nothing use only what they are given and what they find there.
-use Rattle.std.proofs.Common.{◌≡◌, ℕ, zero, suc, List, [], ◌∷◌, Option, Some, None, Ok, Err, Bool, true, false, refl, sym, subst, length, lit<}
+use Rattle.std.proofs.Common.{◌≡◌, ℕ, zero, suc, [], ◌∷◌, Option, Some, None, Ok, Err, true, false, refl, sym, subst, length, lit<}
 use Rattle.std.specs.Prelude.{pos, slice_get, option_map}
 use Rattle.nu_value.specs.declared.object.Object.{Object}
 use Rattle.nu_value.specs.declared.object.Object.TheVariants as object

@@ -1,5 +1,5 @@
 -- Calls of values, and functions that are made (reference, sections 6.3.4 and 8.7).
-use Rattle.std.specs.Prelude.{ℕ, ℤ, pos, negsuc, List, [], ◌∷◌, Option, Some, None, Bool, true, false, ◌&&◌, not, codes, if◌then◌else◌, nat_lt, length, slice_get}
+use Rattle.std.specs.Prelude.{ℕ, ℤ, pos, negsuc, List, [], ◌∷◌, Option, Some, None, Bool, true, ◌&&◌, not, codes, if◌then◌else◌, nat_lt, length, slice_get}
 use Rattle.nu_value.specs.declared.header.Header.{Header}
 use Rattle.nu_value.specs.declared.value.Value.{Value}
 use Rattle.nu_value.specs.declared.value.Value.TheVariants as value

@@ -7,7 +7,6 @@ use Rattle.nu_value.specs.declared.object.Object.TheVariants as object
 use Rattle.nu_value.specs.declared.value.Value.{Value}
 use Rattle.nu_value.specs.declared.value.Value.TheVariants as value
 use Rattle.nu_value.specs.Classes.{found_in}
-use Rattle.nu_value.specs.Names.{NameList}
 use Rattle.nu_value.specs.Same.{object_of}
 use Rattle.op_forms.specs.declared.end.After.TheVariants as behind
 use Rattle.op_forms.specs.declared.end.How.TheVariants as how

@@ -1,6 +1,6 @@
 -- Calls of classes: new instances and exceptions, and what the classes make that no script made (reference, sections 3.2 and 6.3.4;
 -- library reference, "Built-in Functions").
-use Rattle.std.specs.Prelude.{ℕ, ℤ, pos, List, [], ◌∷◌, ◌++◌, Option, Some, None, Bool, true, false, ◌||◌, codes, if◌then◌else◌, nat_eq, length, slice_get}
+use Rattle.std.specs.Prelude.{ℕ, ℤ, pos, List, [], ◌∷◌, ◌++◌, Option, Some, None, Bool, ◌||◌, codes, if◌then◌else◌, nat_eq, length, slice_get}
 use Rattle.std.specs.Ordering.{int_eq}
 use Rattle.std.specs.Str.{bytes_eq}
 use Rattle.nu_value.specs.declared.value.Value.{Value}

@@ -1,5 +1,5 @@
 -- What becomes of the value of a function that an operation asked.
-use Rattle.std.specs.Prelude.{ℕ, ℤ, pos, List, Option, Some, None, Bool, true, false, not, codes, if◌then◌else◌, int_lt}
+use Rattle.std.specs.Prelude.{ℤ, pos, List, Option, Some, None, Bool, true, false, not, codes, if◌then◌else◌, int_lt}
 use Rattle.std.specs.Ordering.{int_eq}
 use Rattle.nu_value.specs.declared.value.Value.{Value}
 use Rattle.nu_value.specs.declared.value.Value.TheVariants as value

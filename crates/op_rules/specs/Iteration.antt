@@ -1,5 +1,5 @@
 -- Iteration (library reference, "Iterator Types").
-use Rattle.std.specs.Prelude.{ℕ, ℤ, pos, negsuc, ◌+ℤ◌, List, [], ◌∷◌, Option, Some, None, true, false, codes, if◌then◌else◌, nat_eq, nat_lt, length, slice_get}
+use Rattle.std.specs.Prelude.{ℕ, ℤ, pos, negsuc, List, [], ◌∷◌, Option, Some, None, true, false, codes, if◌then◌else◌, nat_eq, nat_lt, length, slice_get}
 use Rattle.nu_run.specs.declared.StopKind.TheVariants as stop
 use Rattle.nu_value.specs.declared.key.Atom.{Atom}
 use Rattle.nu_value.specs.declared.object.Object.{Object}

@@ -1,5 +1,5 @@
 -- The order of two values (reference, section 6.10.1): of numbers, texts, and lists and tuples of these.
-use Rattle.std.specs.Prelude.{ℕ, zero, suc, List, [], ◌∷◌, Option, Some, None, length}
+use Rattle.std.specs.Prelude.{ℕ, zero, suc, List, ◌∷◌, Option, Some, length}
 use Rattle.std.specs.Ordering.{int_cmp, nat_cmp}
 use Rattle.nu_run.specs.declared.StopKind.TheVariants as stop
 use Rattle.nu_value.specs.declared.object.Object.{Object}

@@ -1,5 +1,5 @@
 -- How `repr` shows texts and values without items (library reference, `repr`): natives of the built-in text.
-use Rattle.std.specs.Prelude.{ℕ, ◌/◌, ◌%◌, ℤ, pos, List, [], ◌∷◌, ◌++◌, Option, Some, None, Bool, ◌&&◌, ◌||◌, not, codes, if◌then◌else◌, nat_eq, nat_lt, slice_get, option_map}
+use Rattle.std.specs.Prelude.{ℕ, ◌/◌, ◌%◌, ℤ, pos, List, [], ◌∷◌, ◌++◌, Option, Some, None, ◌&&◌, ◌||◌, not, codes, if◌then◌else◌, nat_eq, nat_lt, slice_get, option_map}
 use Rattle.std.specs.Char.{digit_char}
 use Rattle.std.specs.Fmt.{signed_decimal}
 use Rattle.std.specs.List.{flat_map, list_any}

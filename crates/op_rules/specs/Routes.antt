@@ -1,5 +1,5 @@
 -- What does the work of a call: an operation, the built-ins of a family of values, or the call itself.
-use Rattle.std.specs.Prelude.{ℕ, List, [], ◌∷◌, Option, Some, None, Bool, true, false, ◌||◌, codes, if◌then◌else◌, nat_eq, slice_get}
+use Rattle.std.specs.Prelude.{ℕ, List, [], ◌∷◌, Option, Some, Bool, true, false, ◌||◌, codes, if◌then◌else◌, nat_eq, slice_get}
 use Rattle.std.specs.Str.{bytes_eq}
 use Rattle.nu_value.specs.declared.value.Value.{Value}
 use Rattle.nu_value.specs.declared.value.Value.TheVariants as value

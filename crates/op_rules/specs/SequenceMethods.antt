@@ -1,5 +1,5 @@
 -- The methods of lists and tuples (library reference, "Mutable Sequence Types").
-use Rattle.std.specs.Prelude.{ℕ, suc, ◌+◌, ℤ, pos, negsuc, List, [], ◌∷◌, ◌++◌, Option, Some, None, Result, Ok, Err, codes, if◌then◌else◌, unsigned_abs, length, slice_get, reverse, remove, insert}
+use Rattle.std.specs.Prelude.{ℕ, ◌+◌, ℤ, pos, negsuc, List, [], ◌∷◌, ◌++◌, Option, Some, None, Result, Ok, Err, codes, if◌then◌else◌, unsigned_abs, length, slice_get, reverse, remove, insert}
 use Rattle.std.specs.Str.{bytes_eq}
 use Rattle.nu_run.specs.declared.StopKind.{StopKind}
 use Rattle.nu_run.specs.declared.StopKind.TheVariants as stop

@@ -1,8 +1,7 @@
 -- Slices (reference, section 6.3.3).
-use Rattle.std.specs.Prelude.{ℕ, zero, suc, ℤ, pos, negsuc, ◌+ℤ◌, ◌-ℤ◌, List, [], ◌∷◌, ◌++◌, Option, Some, None, Bool, true, false, ◌&&◌, codes, if◌then◌else◌, int_lt, length, slice_get}
+use Rattle.std.specs.Prelude.{ℕ, zero, suc, ℤ, pos, negsuc, ◌+ℤ◌, ◌-ℤ◌, List, [], ◌++◌, Option, Some, None, Bool, true, false, ◌&&◌, codes, if◌then◌else◌, int_lt, length, slice_get}
 use Rattle.std.specs.Option.{option_to_list}
 use Rattle.std.specs.Ordering.{int_eq}
-use Rattle.nu_run.specs.declared.StopKind.TheVariants as stop
 use Rattle.nu_value.specs.declared.object.Object.{Object}
 use Rattle.nu_value.specs.declared.object.Object.TheVariants as object
 use Rattle.nu_value.specs.declared.value.Value.{Value}

@@ -1,5 +1,5 @@
 -- The methods of texts (library reference, "String Methods").
-use Rattle.std.specs.Prelude.{ℕ, ◌-◌, ℤ, pos, negsuc, List, [], ◌∷◌, ◌++◌, Option, Some, Bool, ◌&&◌, ◌==◌, not, codes, if◌then◌else◌, map, nat_eq, nat_le, length}
+use Rattle.std.specs.Prelude.{ℕ, ◌-◌, ℤ, pos, negsuc, List, [], ◌∷◌, ◌++◌, Option, Some, ◌&&◌, ◌==◌, not, codes, if◌then◌else◌, map, nat_eq, nat_le, length}
 use Rattle.std.specs.Char.{to_ascii_lowercase, to_ascii_uppercase}
 use Rattle.std.specs.List.{starts_with, ends_with, list_all}
 use Rattle.std.specs.Str.{bytes_eq}
