@@ -57,7 +57,7 @@ use Rattle.op_rules.specs.Calls.{keywords_of, are_cells, func_made, func_by, cal
 use Rattle.op_rules.specs.Classes.{attribute_row}
 use Rattle.op_rules.specs.Comparisons.{give_bool, same_end, not_row, truth_row, object_truth, is_row}
 use Rattle.op_rules.specs.Dicts.{dict_row}
-use Rattle.op_rules.specs.Exceptions.{bare, exception_by, init_in, exc_on, exc_row, no_catching, classes_in}
+use Rattle.op_rules.specs.Exceptions.{bare, exception_by, init_in, no_exception, exc_on, exc_row, no_catching, classes_in}
 use Rattle.op_rules.specs.Families.{family_at_first, family_at_second}
 use Rattle.op_rules.specs.Finish.{finishing, finished, truth_after, length_after, is_none, made_after, value_after, tuple_after}
 use Rattle.op_rules.specs.IntRows.{of_one, of_two}
@@ -421,7 +421,7 @@ exception_made w class init.Other = tt
 raised_made : (w : World) (n : ℕ) (o : Option Object) → slice_get w.heap n ≡ o → GivesOf w AnError (exc_on w.heap n o)
 raised_made w n (Some (object.Exception class args entries fields cause)) e = ap nature_of e
 raised_made w n (Some (object.Class name base own native)) e =
-    gives_if (is_under w.heap (Some n) baseexception_number) w AnError _ _ (exception_made w n (init_in w.heap n)) tt
+    gives_if (is_under w.heap (Some n) baseexception_number) w AnError (exception_by w.heap n (init_in w.heap n)) (ends no_exception) (exception_made w n (init_in w.heap n)) tt
 raised_made w n o e = tt
 
 value_made : (w : World) (x : Value) → GivesOf w AnError (exc_row w.heap x)

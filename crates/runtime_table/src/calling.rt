@@ -1,6 +1,6 @@
 //! Calls: what does their work.
 
-ghost use Rattle.std.specs.Prelude.{◌≡◌, IfOk, option_copied};
+ghost use Rattle.std.specs.Prelude.{◌≡◌, ◌∷◌, [], IfOk, option_copied};
 ghost use Rattle.nu_value.specs.Same as same;
 ghost use Rattle.op_forms.specs.declared.op.Op.TheVariants as op;
 ghost use Rattle.op_forms.specs.Doing.{Did, DidIn};
@@ -12,9 +12,9 @@ use crate::routes::{is_empty_dict, value_route};
 use crate::table::{row_of, unbuilt};
 use nu_text::RcStr;
 use nu_value::{Codes, Heap, Names, Object, Value};
-use op_forms::{Op, OpEnd, World};
+use op_forms::{OpEnd, World};
 use op_rules::{Family, Route};
-use rt_call::{apply_call, call_value, items_of, names_of, object_of};
+use rt_call::{call_value, copied, items_of, names_of, object_of};
 use rt_class::call_class;
 use rt_dict::call_dict;
 use rt_seq::call_seq;
@@ -106,19 +106,61 @@ fn builtin_called(
     )
 }
 
+// A value is called with arguments.
+fn call_with(
+    alloc: Global,
+    world: &mut World,
+    function: &Value,
+    args: &[Value],
+) -> Result<OpEnd, AllocError>
+    ensures { IfOk result (λ e. DidIn (spec.calling op.Call world.old (function.now ∷ args.now)) world.old world.new e) }
+{
+    match value_route(&world.heap, function, true, args) {
+        Route::Operation(op) => row_of(alloc, op, world, args),
+        Route::BuiltIn(family) => {
+            builtin_called(alloc, family, world, function, args, Names::new(alloc))
+        }
+        Route::Itself => {
+            let args = copied(alloc, args)?;
+            call_value(alloc, &mut world.heap, function, args, Names::new(alloc))
+        }
+    }
+}
+
+// A value is called with a list of arguments and a dict of keywords.
+fn callx_with(
+    alloc: Global,
+    world: &mut World,
+    function: &Value,
+    list: &Value,
+    dict: &Value,
+) -> Result<OpEnd, AllocError>
+    ensures { IfOk result (λ e. DidIn (spec.calling op.CallX world.old (function.now ∷ list.now ∷ dict.now ∷ [])) world.old world.new e) }
+{
+    let args = items_of(alloc, &world.heap, list)?;
+    let names = names_of(alloc, &world.heap, dict)?;
+    let plain = is_empty_dict(&world.heap, dict);
+    match value_route(&world.heap, function, plain, args.as_slice()) {
+        Route::Operation(op) => row_of(alloc, op, world, args.as_slice()),
+        Route::BuiltIn(family) => builtin_called(
+            alloc,
+            family,
+            world,
+            function,
+            args.as_slice(),
+            names,
+        ),
+        Route::Itself => call_value(alloc, &mut world.heap, function, args, names),
+    }
+}
+
 /// A call with arguments.
 pub fn call(alloc: Global, world: &mut World, args: &[Value]) -> Result<OpEnd, AllocError>
     ensures { IfOk result (λ e. DidIn (spec.calling op.Call world.old args.now) world.old world.new e) }
 {
-    let [function, given @ ..] = args else {
-        return unbuilt();
-    };
-    match value_route(&world.heap, function, true, given) {
-        Route::Operation(op) => row_of(alloc, op, world, given),
-        Route::BuiltIn(family) => {
-            builtin_called(alloc, family, world, function, given, Names::new(alloc))
-        }
-        Route::Itself => apply_call(alloc, Op::Call, &mut world.heap, &world.codes, args),
+    match args {
+        [function, args @ ..] => call_with(alloc, world, function, args),
+        [] => unbuilt(),
     }
 }
 
@@ -126,22 +168,8 @@ pub fn call(alloc: Global, world: &mut World, args: &[Value]) -> Result<OpEnd, A
 pub fn callx(alloc: Global, world: &mut World, args: &[Value]) -> Result<OpEnd, AllocError>
     ensures { IfOk result (λ e. DidIn (spec.calling op.CallX world.old args.now) world.old world.new e) }
 {
-    let [function, list, dict] = args else {
-        return unbuilt();
-    };
-    let items = items_of(alloc, &world.heap, list)?;
-    let names = names_of(alloc, &world.heap, dict)?;
-    let plain = is_empty_dict(&world.heap, dict);
-    match value_route(&world.heap, function, plain, items.as_slice()) {
-        Route::Operation(op) => row_of(alloc, op, world, items.as_slice()),
-        Route::BuiltIn(family) => builtin_called(
-            alloc,
-            family,
-            world,
-            function,
-            items.as_slice(),
-            names,
-        ),
-        Route::Itself => call_value(alloc, &mut world.heap, function, items, names),
+    match args {
+        [function, list, dict] => callx_with(alloc, world, function, list, dict),
+        _ => unbuilt(),
     }
 }
