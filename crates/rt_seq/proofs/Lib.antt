@@ -15,3 +15,4 @@ mod Merging
 mod Ended
 mod Disorder
 mod Dropping
+mod TextEnds

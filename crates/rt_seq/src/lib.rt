@@ -3,7 +3,6 @@
 
 mod apply;
 mod asking;
-mod characters;
 mod edits;
 mod errors;
 mod items;
@@ -13,9 +12,11 @@ mod methods;
 mod operators;
 mod order;
 mod ordering;
+mod quick;
 mod search;
 mod slices;
 mod steps;
 
 pub use apply::{apply_seq, call_seq};
 pub use laws::{slices_are_items, sorting_is_stable, writes_are_read};
+pub use quick::{quick_index, quick_next};

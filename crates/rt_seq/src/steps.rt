@@ -7,18 +7,20 @@ ghost use Rattle.nu_value.specs.declared.value.Value.TheVariants as values;
 ghost use Rattle.op_rules.specs.Numbers as numbers;
 ghost use Rattle.op_forms.specs.Doing.{Move, Finish, Did, changed_by, set_in};
 ghost use Rattle.op_rules.specs.Iteration as spec;
+ghost use Rattle.op_rules.specs.TextItems as texts;
 ghost use Rattle.rt_seq.specs.declared.steps.Found.TheVariants as variants;
 ghost use Rattle.rt_seq.specs.Steps as spec_steps;
 
-use crate::characters::text_item;
 use crate::errors::{RUNTIME_ERROR, STOP_ITERATION};
 use crate::items::number_at;
 use crate::lists::make;
 use crate::slices::item_from;
 use nu_run::StopKind;
+use nu_text::RcStr;
 use nu_value::{Heap, Integer, Items, Object, Pairs, Value, ViewKind, range_len};
 use op_forms::{Op, OpEnd};
 use op_rules::{Computed, compute, no_iterator, raised};
+use rt_text::text_item;
 use std::alloc::{AllocError, Global};
 
 fn iterates(alloc: Global, heap: &mut Heap, over: u64) -> Result<OpEnd, AllocError>
@@ -162,6 +164,19 @@ fn found_in(heap: &Heap, over: u64, place: i128, size: u64) -> Result<Found, All
     }
 }
 
+#[tactic(auto, using(crate::proofs::TextEnds::no_item))]
+fn text_found(alloc: Global, text: &RcStr, place: i128) -> Result<Found, AllocError>
+    ensures { IfOk result (λ f. f ≡ spec_steps.one_of (texts.text_item text.now place)) }
+{
+    if place < 0 || text.as_str().len() as i128 <= place {
+        return Ok(Found::Nothing);
+    }
+    match text_item(alloc, text, place as usize)? {
+        None => Ok(Found::Nothing),
+        Some(character) => Ok(Found::One(character)),
+    }
+}
+
 fn found_over(
     alloc: Global,
     heap: &Heap,
@@ -172,10 +187,7 @@ fn found_over(
     ensures { IfOk result (λ f. f ≡ spec_steps.found_over heap.now over.now place size) }
 {
     match over {
-        Value::Str(text) => match text_item(alloc, text.as_str(), place)? {
-            None => Ok(Found::Nothing),
-            Some(character) => Ok(Found::One(character)),
-        },
+        Value::Str(text) => text_found(alloc, text, place),
         Value::Obj(number) => found_in(heap, *number, place, size),
         _ => Ok(Found::Unbuilt),
     }
