@@ -16,7 +16,8 @@ nu nu_code_0(nu_frame *fr)
 
 /// Bodies: a loop without end; one that passes by zero; exceptions, one of them caught and raised again; stops; a name that is not
 /// bound; a value that the module returns; statements of which nothing is said; a line that can't be written behind one that was; a
-/// traceback, which is one put; lists and tuples, with their order; texts; a class, its instance and an exception.
+/// traceback, which is one put; lists and tuples, with their order; texts; a class, its instance and an
+/// exception; a dict of 100,000 keys.
 const BODIES: &str = r#"000 run t.py 8
   nu r0, r1;
 L1:;
@@ -457,6 +458,35 @@ wrong
 Traceback (most recent call last):
   File "t.py", line 1, in <module>
 AttributeError
+====
+000 run t.py 1000000
+  nu r0, r1, r2, r3;
+  r0 = nu_dict(fr, 1); if (nu_bad(fr)) goto L0;
+  r1 = nu_int("0");
+L1:;
+  r2 = nu_lt(fr, 1, r1, nu_int("100000")); if (nu_bad(fr)) goto L0;
+  if (nu_is(r2)) goto L2;
+  goto L3;
+L2:;
+  r2 = nu_mul(fr, 1, r1, r1); if (nu_bad(fr)) goto L0;
+  r3 = nu_setindex(fr, 1, r0, r1, r2); if (nu_bad(fr)) goto L0;
+  r1 = nu_add(fr, 1, r1, nu_int("1")); if (nu_bad(fr)) goto L0;
+  goto L1;
+L3:;
+  r2 = nu_native(fr, 2, "len"); if (nu_bad(fr)) goto L0;
+  r2 = nu_call(fr, 2, r2, r0); if (nu_bad(fr)) goto L0;
+  r3 = nu_global(fr, 2, "print"); if (nu_bad(fr)) goto L0;
+  r2 = nu_call(fr, 2, r3, r2); if (nu_bad(fr)) goto L0;
+  r2 = nu_index(fr, 3, r0, nu_int("77777")); if (nu_bad(fr)) goto L0;
+  r2 = nu_call(fr, 3, r3, r2); if (nu_bad(fr)) goto L0;
+  return nu_end(fr);
+L0:;
+  return nu_fail(fr);
+----
+0
+100000
+6049261729
+----
 "#;
 
 #[test]
