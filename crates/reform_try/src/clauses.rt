@@ -1,14 +1,18 @@
 //! `try` with `except` clauses.
 
 ghost use Rattle.std.specs.Prelude.{◌≡◌, ◌+◌, ◌<◌, ◌^◌, map, reverse, IfOk, OnOk};
+ghost use Rattle.op_forms.specs.declared.constant.Const.TheVariants as constant;
+ghost use Rattle.code_forms.specs.declared.operand.Operand.TheVariants as operand;
 ghost use Rattle.node_tree.specs.Tree.{block};
+ghost use Rattle.node_tree.specs.Blocks.{alone};
 ghost use Rattle.node_tree.specs.Blocks as tree;
 ghost use Rattle.carries_control.specs.Tries.{try_block, clause_block};
 ghost use Rattle.carried_codes.specs.Clauses as spec;
+ghost use Rattle.carried_codes.specs.Seats.{stores, unbinds};
 ghost use Rattle.reform_names.specs.Homes.{seat_of};
 ghost use Rattle.reform_try.specs.Guards.{clause_of, guard_of, bound_of};
 
-use crate::ends::{five, two};
+use crate::ends::{five, goes_on, two};
 use crate::finally::finishing;
 use node_tree::{Argument, Block, Node, Operand, Temps};
 use op_forms::{Const, Op};
@@ -59,6 +63,28 @@ fn eight(temps: &mut Temps) -> Result<u64, AllocError>
     Ok(first)
 }
 
+// The name is bound to the exception.
+fn bound(alloc: Global, home: &Home, caught: u64, line: u32, to: u64) -> Result<Block, AllocError>
+    ensures { IfOk result (λ b. block b ≡ alone (stores to line (seat_of home.now) (operand.Temp caught))) }
+{
+    let shared = home.share()?;
+    let node = store(alloc, to, line, shared, Operand::Temp(caught))?;
+    let block = single(alloc, node)?;
+    Ok(block)
+}
+
+// The name is set to None, so that it is bound, and then unbound.
+fn unbound(alloc: Global, home: Home, line: u32, next: u64) -> Result<Block, AllocError>
+    requires { next + 2 < 2 ^ 64 }
+    ensures { IfOk result (λ b. block b ≡ tree.append (alone (stores (next + 1) line (seat_of home) (operand.Const constant.None))) (unbinds (next + 2) line (seat_of home))) }
+{
+    let shared = home.share()?;
+    let none = store(alloc, next + 1, line, shared, Operand::Const(Const::None))?;
+    let block = single(alloc, none)?;
+    let gone = unbind(alloc, next + 2, line, home)?;
+    append(block, gone)
+}
+
 // The name is bound to the exception while the body runs, then set to None and unbound.
 #[tactic(auto, unfolding(carried_codes::specs::Clauses::name_clause))]
 fn named(
@@ -72,20 +98,10 @@ fn named(
     requires { next + 7 < 2 ^ 64 }
     ensures { IfOk result (λ b. block b ≡ (spec.name_clause line (seat_of home) caught (block body) next).block) }
 {
-    let first = store(alloc, next, line, home.share()?, Operand::Temp(caught))?;
-    let none = store(
-        alloc,
-        next + 1,
-        line,
-        home.share()?,
-        Operand::Const(Const::None),
-    )?;
-    let gone = unbind(alloc, next + 2, line, home)?;
-    let last = single(alloc, none)?;
-    let last = append(last, gone)?;
+    let first = bound(alloc, &home, caught, line, next)?;
+    let last = unbound(alloc, home, line, next)?;
     let whole = finishing(alloc, body, last, next + 3)?;
-    let block = single(alloc, first)?;
-    append(block, whole)
+    append(first, whole)
 }
 
 #[tactic(auto, unfolding(carried_codes::specs::Clauses::name_clause))]
@@ -217,12 +233,7 @@ fn handle(alloc: Global, exception: u64, guard: Guard, rest: Block) -> Result<Bl
 fn handles(alloc: Global, exception: u64, guards: Vec<Guard>) -> Result<Block, AllocError>
     ensures { IfOk result (λ b. block b ≡ spec.handles exception (map guard_of (reverse guards.items))) }
 {
-    let mut rest = single(
-        alloc,
-        Node::Raise {
-            value: Operand::Temp(exception),
-        },
-    )?;
+    let mut rest = goes_on(alloc, exception)?;
     for guard in guards {
         rest = handle(alloc, exception, guard, rest)?;
     }

@@ -1,7 +1,10 @@
 //! A body whose every end is kept, and the end that goes on.
 
 ghost use Rattle.std.specs.Prelude.{◌≡◌, ◌+◌, ◌<◌, ◌^◌, IfOk, OnOk};
+ghost use Rattle.code_forms.specs.declared.operand.Operand.TheVariants as operand;
 ghost use Rattle.node_tree.specs.Tree.{form, block};
+ghost use Rattle.node_tree.specs.Blocks.{alone};
+ghost use Rattle.node_tree.specs.Blocks as tree;
 ghost use Rattle.carries_control.specs.Finish.{guarded as guarded_form, onward as onward_block, raised_or as raised_block};
 
 use node_tree::{Block, Node, Operand, Temps};
@@ -72,17 +75,22 @@ pub fn onward(alloc: Global, kept: u64) -> Result<Block, AllocError>
     Ok(whole)
 }
 
+/// The exception in a temporary goes on.
+pub fn goes_on(alloc: Global, exception: u64) -> Result<Block, AllocError>
+    ensures { IfOk result (λ b. block b ≡ alone (tree.Raise (operand.Temp exception))) }
+{
+    let raises = Node::Raise {
+        value: Operand::Temp(exception),
+    };
+    single(alloc, raises)
+}
+
 /// The exception that was pending goes on; else a block runs.
 pub fn raised_or(alloc: Global, kept: u64, other: Block) -> Result<Block, AllocError>
     requires { kept + 4 < 2 ^ 64 }
     ensures { IfOk result (λ b. block b ≡ raised_block kept (block other)) }
 {
-    let raises = single(
-        alloc,
-        Node::Raise {
-            value: Operand::Temp(kept),
-        },
-    )?;
+    let raises = goes_on(alloc, kept)?;
     let whole = single(alloc, branches(Operand::Temp(kept + 2), raises, other))?;
     Ok(whole)
 }

@@ -12,5 +12,5 @@ mod with;
 
 pub use clauses::{Clause, try_except};
 pub use finally::try_finally;
-pub use raises::{assert_that, raise_value};
+pub use raises::{assert_that, raise_again, raise_value};
 pub use with::with_item;

@@ -1,15 +1,16 @@
 //! `raise` and `assert`.
 
-ghost use Rattle.std.specs.Prelude.{◌≡◌, ◌+◌, ◌<◌, ◌^◌, [], ◌∷◌, map, IfOk, OnOk};
+ghost use Rattle.std.specs.Prelude.{◌≡◌, ℕ, ◌+◌, ◌<◌, ◌^◌, [], ◌∷◌, map, IfOk, OnOk};
 ghost use Rattle.code_forms.specs.declared.operand.Argument.TheVariants as argument;
 ghost use Rattle.node_tree.specs.Tree.{block};
 ghost use Rattle.carries_base.specs.Carries.{joined};
 ghost use Rattle.carries_control.specs.Raises.{raise_block, fails_block};
+ghost use Rattle.carried_codes.specs.Parts.{made};
 ghost use Rattle.carried_codes.specs.Statements as statements;
 ghost use Rattle.reform_blocks.specs.Parts.{carrier};
 ghost use Rattle.reform_try.specs.Texts.{texts_of, arguments_of};
 
-use crate::ends::{five, two};
+use crate::ends::{five, goes_on, two};
 use node_tree::{Argument, Block, Node, Operand, Temps};
 use op_forms::Op;
 use reform_base::Part;
@@ -52,6 +53,21 @@ pub fn raise_value(
     let raised = raises(alloc, value, next, line)?;
     let whole = append(first, raised)?;
     Ok(whole)
+}
+
+/// A bare `raise`: the exception of the `except` clause around it, in a temporary, is raised again (reference, section 7.8). Where none
+/// is around it, nothing is done.
+///
+/// # Errors
+///
+/// Want of memory alone.
+pub fn raise_again(alloc: Global, caught: Option<u64>) -> Result<Block, AllocError>
+    ensures { IfOk result (λ b. (next : ℕ) → statements.raise_again caught next ≡ made (block b) next) }
+{
+    match caught {
+        None => Ok(Items::new(alloc)),
+        Some(exception) => goes_on(alloc, exception),
+    }
 }
 
 // An AssertionError of a text, if there is one, is raised.

@@ -20,7 +20,7 @@ ghost use Rattle.reform_blocks.specs.Standing as content;
 ghost use Rattle.reform_try.specs.Asks.{with_asks, managed_block};
 ghost use Rattle.carries_control.specs.Finish.{exits_block, leaving_block};
 
-use crate::ends::{five, guarded, onward};
+use crate::ends::{five, goes_on, guarded, onward};
 use node_tree::{Argument, Block, Node, Operand, Temps};
 use op_forms::{Const, Op};
 use reform_base::Part;
@@ -38,8 +38,8 @@ use std::alloc::{AllocError, Global};
 pub fn with_item(
     alloc: Global,
     manager: Part,
-    item: u64,
     bind: Block,
+    item: u64,
     body: Block,
     line: u32,
     temps: &mut Temps,
@@ -139,12 +139,7 @@ fn exits(alloc: Global, line: u32, kept: u64, leave: u64, next: u64) -> Result<B
         Operand::Temp(next + 1),
     )?;
     let truth = operation(alloc, next + 3, line, Op::Truth, Operand::Temp(next + 2))?;
-    let raises = single(
-        alloc,
-        Node::Raise {
-            value: Operand::Temp(kept),
-        },
-    )?;
+    let raises = goes_on(alloc, kept)?;
     let ends = branches(Operand::Temp(next + 3), Items::new(alloc), raises);
     let whole = single(alloc, class)?;
     let whole = followed(whole, trace)?;
