@@ -7,5 +7,5 @@ loop-clause-init c = first_guards _ c.args.clauses.items c.new-done.result.items
 
 pub loop-clause-preserved : goal.loop-clause-preserved
 loop-clause-preserved c =
-    next_guards _ _ c.loop-clause.left.items c.pop.new.self.items c.loop-clause.done.items c.push.new.self.items c.in-Some.clause c.in_ok-guard.guard c.in-Some.ensures c.in_ok-push.ensures.items c.in_ok-guard.ensures.is c.in_ok-guard.ensures.next
+    next_guards _ _ c.loop-clause.left.items c.pop.new.self.items c.loop-clause.done.items c.push.new.self.items c.in-Some.clause c.in_ok-guard.guard c.in-Some.ensures.items c.in_ok-push.ensures.items c.in_ok-guard.ensures.is c.in_ok-guard.ensures.next
     ∙ c.loop-clause.invariant
