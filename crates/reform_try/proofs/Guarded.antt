@@ -1,7 +1,6 @@
 -- Clauses are guarded from the last to the first.
 use Rattle.std.proofs.Common.{◌≡◌, ℕ, map, List, [], ◌∷◌, ◌++◌, reverse, refl, sym, ap, ◌∙◌}
 use Rattle.std.proofs.lemmas.List.{reverse-append}
-use Rattle.node_tree.specs.Blocks as tree
 use Rattle.carried_codes.specs.Parts.{Several, several}
 use Rattle.carried_codes.specs.Clauses as clauses
 use Rattle.reform_try.specs.declared.clauses.Clause.{Clause}

@@ -1,19 +1,12 @@
 -- What stands in the block of a clause that always runs.
-use Rattle.std.proofs.Common.{◌≡◌, ℕ, ◌+◌, List, [], ◌∷◌, codes, Bool, true, false, refl, arith}
-use Rattle.op_forms.specs.declared.constant.Const.{Const}
+use Rattle.std.proofs.Common.{◌≡◌, ℕ, ◌+◌, Bool, true, false, refl, arith}
 use Rattle.op_forms.specs.declared.constant.Const.TheVariants as const
-use Rattle.op_forms.specs.declared.op.Op.{Op}
-use Rattle.op_forms.specs.declared.op.Op.TheVariants as op
-use Rattle.code_forms.specs.declared.operand.Argument.{Argument}
-use Rattle.code_forms.specs.declared.operand.Argument.TheVariants as argument
 use Rattle.code_forms.specs.declared.operand.Operand.{Operand}
 use Rattle.node_tree.specs.Blocks as tree
 use Rattle.node_tree.proofs.Direct.{total_append}
-use Rattle.node_tree.specs.Contents.{total, form_operations, operations, form_constants, constants, form_yields, yields}
 use Rattle.carries_control.specs.Finish.{onward, raised_or, finally_block, with_block}
-use Rattle.node_tree.specs.Blocks.{of_temp}
 use Rattle.reform_try.specs.Asks.{with_asks, managed_block}
-use Rattle.reform_blocks.proofs.Kept.{redirect_operations, redirect_constants, redirect_yields, redirect_standing}
+use Rattle.reform_blocks.proofs.Kept.{redirect_standing}
 use Rattle.reform_blocks.specs.Standing.{Content, form_standing, standing}
 use Rattle.reform_blocks.specs.Standing as content
 

@@ -1,4 +1,4 @@
-use Rattle.std.proofs.Common.{◌≡◌, ap, ◌∙◌}
+use Rattle.std.proofs.Common.{◌∙◌}
 use Rattle.reform_try.proofs.Guarded.{first_guards, next_guards}
 use Rattle.reform_try.proofs.clauses.guards.Goals as goal
 

@@ -1,4 +1,4 @@
-use Rattle.std.proofs.Common.{◌≡◌, sym, ap, ◌∙◌}
+use Rattle.std.proofs.Common.{sym, ap, ◌∙◌}
 use Rattle.carried_codes.specs.Clauses as clauses
 use Rattle.reform_try.specs.Guards.{guard_of}
 use Rattle.reform_try.proofs.Guarded.{next_handles}

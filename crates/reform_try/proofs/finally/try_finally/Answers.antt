@@ -1,4 +1,3 @@
-use Rattle.std.proofs.Common.{refl}
 use Rattle.node_tree.specs.Tree.{block}
 use Rattle.carries_control.proofs.Finish.{finally_carried}
 use Rattle.reform_try.proofs.Kept.{finally_standing}

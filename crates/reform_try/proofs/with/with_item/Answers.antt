@@ -1,9 +1,5 @@
-use Rattle.std.proofs.Common.{◌≡◌, refl, ap, ◌∙◌}
-use Rattle.node_tree.specs.Blocks as tree
 use Rattle.node_tree.specs.Tree.{block}
-use Rattle.carries_control.specs.Finish.{with_block}
 use Rattle.carries_control.proofs.With.{with_carried}
-use Rattle.reform_try.specs.Asks.{managed_block}
 use Rattle.reform_try.proofs.Kept.{with_standing}
 use Rattle.reform_try.proofs.with.with_item.Goals as goal
 
