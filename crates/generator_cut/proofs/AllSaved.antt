@@ -1,16 +1,11 @@
 -- The plan that saves all registers saves enough.
-use Rattle.std.proofs.Common.{◌≡◌, ◌⊎◌, inl, inr, ⊎_elim, ℕ, zero, suc, ◌+◌, ◌<◌, ◌≤◌, List, [], ◌∷◌, Bool, true, false, Option, Some, None, slice_get, length, refl, sym, ap, ◌∙◌, subst, arith}
+use Rattle.std.proofs.Common.{◌≡◌, inl, inr, ⊎_elim, ℕ, zero, suc, ◌+◌, ◌<◌, ◌≤◌, List, [], ◌∷◌, true, Some, slice_get, length, refl, ap, subst, arith}
 use Rattle.std.proofs.lemmas.Bool.{cases_lt}
 use Rattle.std.specs.List.{AllByRecursion}
-use Rattle.nu_run.specs.Runs.{Same, IsDefined}
-use Rattle.op_forms.specs.Rules.{Rules}
 use Rattle.flow_code.specs.declared.function.FlatFunction.{FlatFunction}
-use Rattle.flow_code.specs.declared.function.FlatScript.{FlatScript}
 use Rattle.flow_code.specs.declared.statement.Line.{Line}
 use Rattle.flow_code.specs.WellFormed.{WellFormed}
-use Rattle.flow_code.specs.Run.{flat_run}
-use Rattle.c_meaning.specs.Run.{c_run}
-use Rattle.generator_cut.specs.Cut.{counted, all_saved, program_of}
+use Rattle.generator_cut.specs.Cut.{counted, all_saved}
 use Rattle.generator_cut.specs.Plan.{Has, Works}
 use Rattle.generator_cut.specs.Correct.{ProgramsDoTheSame}
 use Rattle.generator_cut.proofs.Places.{some_is, read_at}

@@ -1,12 +1,11 @@
 -- Lists that are written item by item.
-use Rattle.std.proofs.Common.{◌≡◌, ℕ, zero, suc, ◌+◌, ◌-◌, ◌<◌, List, [], ◌∷◌, ◌++◌, length, drop, Some, slice_get, refl, sym, ap, ◌∙◌, subst, append_assoc, arith}
+use Rattle.std.proofs.Common.{◌≡◌, ℕ, suc, ◌+◌, ◌-◌, ◌<◌, List, [], ◌∷◌, ◌++◌, refl, sym, ap, ◌∙◌, append_assoc, arith}
 use Rattle.flow_code.specs.declared.statement.Line.{Line as FlatLine}
 use Rattle.flow_code.specs.declared.statement.Line.TheVariants as flat_line
 use Rattle.flow_code.specs.declared.statement.Statement.{Statement as FlatStatement}
 use Rattle.flow_code.specs.declared.statement.Statement.TheVariants as flat
 use Rattle.flow_code.specs.Contents.{yields}
-use Rattle.c_meaning.specs.declared.program.Line.{Line}
-use Rattle.generator_cut.specs.Cut.{counted, lines, behind, behind_line}
+use Rattle.generator_cut.specs.Cut.{counted, behind, behind_line}
 
 pub counted_step : (count i first : ℕ) (old new : List ℕ) → i < count → new ≡ old ++ (first + i) ∷ [] → new ++ counted (count - (i + 1)) (first + (i + 1)) ≡ old ++ counted (count - i) (first + i)
 counted_step count i first old new h e =

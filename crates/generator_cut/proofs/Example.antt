@@ -1,8 +1,7 @@
 -- A generator that pauses thrice, is told a value and an exception, and is over: both runs, computed.
-use Rattle.std.specs.Prelude.{◌≡◌, refl, ℕ, pos, List, [], ◌∷◌, ◌++◌, Bool, true, false, None, codes}
+use Rattle.std.specs.Prelude.{◌≡◌, refl, ℕ, List, [], ◌∷◌, Bool, true, false, None, codes}
 use Rattle.nu_run.specs.declared.End.TheVariants as end
-use Rattle.nu_run.specs.Runs.{Run, Going, Ended}
-use Rattle.nu_value.specs.declared.header.Header.{Header}
+use Rattle.nu_run.specs.Runs.{Ended}
 use Rattle.nu_value.specs.declared.object.GenState.TheVariants as gen
 use Rattle.nu_value.specs.declared.object.Object.TheVariants as object
 use Rattle.nu_value.specs.declared.value.Value.{Value}

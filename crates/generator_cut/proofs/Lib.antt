@@ -1,5 +1,7 @@
 pub mod Places
 pub mod Slots
+mod States
+mod Generators
 pub mod Machines
 mod AllSaved
 pub mod Paths

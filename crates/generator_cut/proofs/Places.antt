@@ -1,5 +1,5 @@
 -- Where C code goes on: the lines that are left, and the number of a statement.
-use Rattle.std.proofs.Common.{◌≡◌, ◌≢◌, ℕ, zero, suc, ◌+◌, ◌<◌, ◌≤◌, List, [], ◌∷◌, ◌++◌, Bool, true, false, nat_eq, nat_lt, if◌then◌else◌, Option, Some, None, slice_get, map, option_map, refl, sym, ap, ◌∙◌, subst, arith, append_assoc, append-nil}
+use Rattle.std.proofs.Common.{◌≡◌, ◌≢◌, ℕ, zero, suc, ◌+◌, ◌<◌, ◌≤◌, List, [], ◌∷◌, ◌++◌, Bool, true, false, nat_eq, if◌then◌else◌, Option, Some, None, slice_get, map, option_map, refl, sym, ap, ◌∙◌, subst, arith, append_assoc}
 use Rattle.std.proofs.lemmas.Bool.Decides.{nat_tests}
 use Rattle.std.specs.List.{AllByRecursion}
 use Rattle.flow_code.specs.declared.function.FlatFunction.{FlatFunction}
@@ -9,7 +9,7 @@ use Rattle.flow_code.specs.declared.statement.Statement.{Statement as FlatStatem
 use Rattle.flow_code.specs.declared.statement.Statement.TheVariants as flat
 use Rattle.flow_code.specs.Contents.{yields}
 use Rattle.flow_code.specs.Labels.{stands, LabelsNumbered}
-use Rattle.flow_code.specs.Registers.{line_registers, registers, writes, reads, RegistersDeclared}
+use Rattle.flow_code.specs.Registers.{line_registers, writes, reads, RegistersDeclared}
 use Rattle.flow_code.specs.Run.{find, first}
 use Rattle.c_meaning.specs.declared.program.Line.{Line}
 use Rattle.c_meaning.specs.declared.program.Line.TheVariants.{Label, Do}

@@ -1,5 +1,4 @@
 use Rattle.std.proofs.Common.{sym, subst}
-use Rattle.c_meaning.specs.declared.program.CProgram as program
 use Rattle.c_meaning.specs.Written.{IsProgram}
 use Rattle.generator_cut.specs.Correct.{DoesTheSame, HasHeads, KeepsEach}
 use Rattle.generator_cut.proofs.AllSaved.{programs_same}

@@ -2,7 +2,7 @@ use Rattle.std.proofs.Common.{◌≡◌, suc, ◌+◌, ◌∷◌, ◌++◌, drop
 use Rattle.std.specs.List.{AllByRecursion}
 use Rattle.std.proofs.Math.Seq.{drop-cons}
 use Rattle.flow_code.specs.Contents.{yields}
-use Rattle.generator_cut.specs.Cut.{lines, behind_line}
+use Rattle.generator_cut.specs.Cut.{lines}
 use Rattle.generator_cut.specs.Fits.{LineFits}
 use Rattle.generator_cut.proofs.Emitted.{yields_more}
 use Rattle.generator_cut.proofs.statements.put_lines.Goals as goal
