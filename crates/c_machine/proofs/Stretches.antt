@@ -11,8 +11,8 @@ use Rattle.c_meaning.specs.declared.code.Code.{Code}
 use Rattle.c_meaning.specs.State.{State, printed_in}
 use Rattle.c_meaning.specs.Step.{step}
 use Rattle.c_meaning.proofs.Grows.{step_grows}
-use Rattle.c_machine.specs.declared.execution.Execution.{Execution}
-use Rattle.c_machine.specs.Standing.{Outside, Standing, state_of, stands, printing}
+use Rattle.c_stack.specs.declared.execution.Execution.{Execution}
+use Rattle.c_stack.specs.Standing.{Outside, Standing, state_of, stands, printing}
 use Rattle.c_machine.specs.Walks.{Leads}
 use Rattle.c_machine.specs.declared.ending.Stepped.{Stepped as Answer}
 use Rattle.c_machine.specs.declared.ending.Stepped.TheVariants as answer

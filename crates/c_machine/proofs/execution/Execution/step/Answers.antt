@@ -1,8 +1,7 @@
 use Rattle.std.proofs.Common.{◌≡◌, sym, ◌∙◌, ap, Some, rules}
 use Rattle.op_rules.specs.TableRules.{table_rules}
 use Rattle.c_meaning.specs.Step as meaning
-use Rattle.c_machine.specs.Effects.{placed_for}
-use Rattle.c_machine.specs.Standing.{state_of}
+use Rattle.c_stack.specs.Standing.{state_of}
 use Rattle.c_machine.proofs.Taking.{taken_quietly}
 use Rattle.c_machine.proofs.execution.Execution.step.Goals as goal
 

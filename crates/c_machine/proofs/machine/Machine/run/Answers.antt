@@ -5,9 +5,8 @@ use Rattle.c_meaning.specs.State.{printed_in}
 use Rattle.c_meaning.specs.Step.{step}
 use Rattle.c_machine.specs.Machines.{answer_at_rest}
 use Rattle.c_machine.specs.Calls.{Runs, Walks, counted}
-use Rattle.c_machine.specs.Effects.{placed_for}
 use Rattle.c_machine.specs.Light.{is_light}
-use Rattle.c_machine.specs.Standing.{Outside, state_of, stands, printing}
+use Rattle.c_stack.specs.Standing.{Outside, state_of, stands, printing}
 use Rattle.c_machine.specs.Walks.{Leads}
 use Rattle.c_machine.proofs.Sinks.{adds_nothing, adds_more}
 use Rattle.c_machine.proofs.Stretches.{Stretch, stands_going, rest_none, rest_ended, at_work, answer_more, answer_ended, stretch_on, stretch_far, stretch_end, stretch_rest, run_goes, run_ends, runs_cut_at, counted_more, counted_sum}
