@@ -5,6 +5,7 @@ use Rattle.nu_value.specs.declared.object.GenState.{GenState}
 use Rattle.nu_value.specs.declared.object.Object.{Object}
 use Rattle.nu_value.specs.declared.object.Object.TheVariants as object
 use Rattle.nu_value.specs.declared.value.Value.{Value}
+use Rattle.nu_value.specs.declared.value.Value.TheVariants as value
 use Rattle.op_forms.specs.declared.end.After.{After}
 use Rattle.op_forms.specs.declared.end.After.TheVariants as after
 use Rattle.op_forms.specs.declared.end.OpEnd.{OpEnd}
@@ -76,7 +77,11 @@ abbrev pub is_plain : After → Bool
 is_plain after.Plain = true
 is_plain other = false
 
--- PARTS OF OBJECTS
+-- PARTS OF VALUES AND OBJECTS
+
+abbrev pub is_none : Value → Bool
+is_none value.None = true
+is_none other = false
 
 abbrev pub function_parts : Option Object → Option (ℕ × List Value)
 function_parts (Some (object.Function code defaults keywords cells)) = Some (code, cells)

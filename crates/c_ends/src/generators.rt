@@ -1,14 +1,18 @@
 //! Generators: how they are resumed, pause and end.
 
-ghost use Rattle.std.specs.Prelude.{◌≡◌, IfOk, IfSome, length, slice_get, slice_set, ◌+◌, ◌<◌, false, true};
+ghost use Rattle.std.specs.Prelude.{◌≡◌, ℕ, List, ◌∷◌, [], IfOk, codes, IfSome, length, slice_get, slice_set, ◌+◌, ◌<◌, false, true};
 ghost use Rattle.nu_value.specs.Classes.{base_of, is_among, outward};
 ghost use Rattle.nu_calls.specs.Exceptions as exceptions;
 ghost use Rattle.nu_calls.specs.Ends as ends;
-ghost use Rattle.c_ends.specs.Outcomes.{BeginsAs, EndsAs, end_of, generator_parts, in_state, state_in};
+ghost use Rattle.nu_value.specs.declared.value.Value as value;
+ghost use Rattle.nu_value.specs.declared.value.Value.TheVariants as value_of;
+ghost use Rattle.op_forms.specs.declared.end.How.TheVariants as how_of;
+ghost use Rattle.c_ends.specs.declared.outcome.Begun.TheVariants as begun_of;
+ghost use Rattle.c_ends.specs.Outcomes.{BeginsAs, EndsAs, end_of, generator_parts, in_state, is_none, state_in};
 
 use crate::calls::copied;
 use crate::outcome::{Begun, BodyEnd, Outcome};
-use crate::raises::{enlist, exception_made, raises, raises_text};
+use crate::raises::{enlist, exception_made, raises_bare, raises_text, raises_with};
 use c_meaning::Told;
 use nu_run::StopKind;
 use nu_value::{GenState, Heap, Items, Object, Value};
@@ -129,12 +133,20 @@ fn base_of(heap: &Heap, class: u64) -> Option<u64>
 fn returned(alloc: Global, world: &mut World, value: Value) -> Result<Outcome, AllocError>
     ensures { IfOk result (λ o. EndsAs (λ a. ends.returned a value) world.old world.new o) }
 {
-    let mut args = Items::new(alloc);
-    match value {
-        Value::None => {}
-        value => args.push(value)?,
+    if is_none(&value) {
+        raises_bare(alloc, world, STOP_ITERATION)
+    } else {
+        raises_with(alloc, world, STOP_ITERATION, value)
     }
-    raises(alloc, world, STOP_ITERATION, args)
+}
+
+fn is_none(value: &Value) -> bool
+    ensures { result ≡ is_none value.now }
+{
+    match value {
+        Value::None => true,
+        _ => false,
+    }
 }
 
 // An exception leaves a generator's body.
@@ -196,6 +208,7 @@ pub fn generator_paused(
 {
     set_state(&mut world.heap, generator, GenState::Paused);
     if closing {
+        drop(value);
         raises_text(
             alloc,
             world,
@@ -204,6 +217,16 @@ pub fn generator_paused(
         )
     } else {
         Ok(Outcome::Gives(value))
+    }
+}
+
+// The line of a function.
+fn first_line(world: &World, function: u32) -> u32
+    ensures { result ≡ ends.first_line (slice_get world.now.codes function) }
+{
+    match world.codes.get(function) {
+        Some(header) => header.line,
+        None => 0,
     }
 }
 
@@ -218,27 +241,94 @@ fn thrown_fresh(
 ) -> Result<Outcome, AllocError>
     ensures { IfOk result (λ o. EndsAs (λ a. ends.thrown_fresh scripts a generator function exception) world.old world.new o) }
 {
-    let line = match world.codes.get(function) {
-        Some(header) => header.line,
-        None => 0,
-    };
+    let line = first_line(world, function);
     enlist(scripts, world, function, line, exception)?;
     generator_ended(alloc, world, generator, false, BodyEnd::Raise(exception))
 }
 
 // What the code that resumes a generator that is over has of that.
-fn over_resumed(alloc: Global, world: &mut World, how: How) -> Result<Outcome, AllocError>
-    ensures { IfOk result (λ o. EndsAs (λ a. ends.over_resumed a how) world.old world.new o) }
+fn over_resumed(alloc: Global, world: &mut World, how: &How) -> Result<Outcome, AllocError>
+    ensures { IfOk result (λ o. EndsAs (λ a. ends.over_resumed a how.now) world.old world.new o) }
 {
     match how {
-        How::Send(_) => raises(alloc, world, STOP_ITERATION, Items::new(alloc)),
-        How::Throw(exception) => Ok(Outcome::Raises(exception)),
+        How::Send(_) => raises_bare(alloc, world, STOP_ITERATION),
+        How::Throw(exception) => Ok(Outcome::Raises(*exception)),
         How::Close => Ok(Outcome::Gives(Value::None)),
     }
 }
 
-// A generator that hasn't begun is resumed.
+// A generator that hasn't begun is resumed with None.
 #[tactic(auto, using(crate::proofs::Resumes::begins_full, crate::proofs::Resumes::begins_room))]
+fn start(
+    world: &mut World,
+    full: bool,
+    generator: u64,
+    function: u32,
+    given: Items,
+    cells: Items,
+) -> Begun
+    ensures { (scripts : ℕ) → BeginsAs (λ a. ends.fresh_resumed scripts a generator function given cells (how_of.Send value_of.None)) full world.old world.new result }
+{
+    if full {
+        return Begun::Over(Outcome::Stops(StopKind::Depth));
+    }
+    set_state(&mut world.heap, generator, GenState::Running);
+    Begun::Starts {
+        generator,
+        function,
+        given,
+        cells,
+    }
+}
+
+// An exception is thrown into a generator that hasn't begun, unless 1,000 frames are live.
+#[tactic(auto, using(crate::proofs::Resumes::begins_full, crate::proofs::Resumes::begins_room))]
+fn throw_fresh(
+    alloc: Global,
+    scripts: u32,
+    world: &mut World,
+    full: bool,
+    generator: u64,
+    function: u32,
+    exception: u64,
+) -> Result<Outcome, AllocError>
+    ensures { IfOk result (λ o. (given cells : List value.Value) → BeginsAs (λ a. ends.fresh_resumed scripts a generator function given cells (how_of.Throw exception)) full world.old world.new (begun_of.Over o)) }
+{
+    if full {
+        Ok(Outcome::Stops(StopKind::Depth))
+    } else {
+        thrown_fresh(alloc, scripts, world, generator, function, exception)
+    }
+}
+
+// A generator that hasn't begun is sent a value.
+fn send_fresh(
+    alloc: Global,
+    world: &mut World,
+    full: bool,
+    generator: u64,
+    parts: (u32, Items, Items),
+    value: Value,
+) -> Result<Begun, AllocError>
+    ensures { IfOk result (λ b. (scripts : ℕ) → BeginsAs (λ a. ends.fresh_resumed scripts a generator parts.0 parts.1 parts.2 (how_of.Send value)) full world.old world.new b) }
+{
+    let none = is_none(&value);
+    drop(value);
+    let (function, given, cells) = parts;
+    if none {
+        return Ok(start(world, full, generator, function, given, cells));
+    }
+    drop(given);
+    drop(cells);
+    Ok(Begun::Over(raises_text(
+        alloc,
+        world,
+        TYPE_ERROR,
+        "can't send non-None value to a just-started generator",
+    )?))
+}
+
+// A generator that hasn't begun is resumed.
 fn resume_fresh(
     alloc: Global,
     scripts: u32,
@@ -250,33 +340,17 @@ fn resume_fresh(
 ) -> Result<Begun, AllocError>
     ensures { IfOk result (λ b. BeginsAs (λ a. ends.fresh_resumed scripts a generator parts.0 parts.1 parts.2 how) full world.old world.new b) }
 {
-    let (function, given, cells) = parts;
     match how {
-        How::Send(Value::None) => {
-            if full {
-                return Ok(Begun::Over(Outcome::Stops(StopKind::Depth)));
-            }
-            set_state(&mut world.heap, generator, GenState::Running);
-            Ok(Begun::Starts {
-                generator,
-                function,
-                given,
-                cells,
-            })
-        }
-        How::Send(_) => Ok(Begun::Over(raises_text(
-            alloc,
-            world,
-            TYPE_ERROR,
-            "can't send non-None value to a just-started generator",
-        )?)),
+        How::Send(value) => send_fresh(alloc, world, full, generator, parts, value),
         How::Throw(exception) => {
-            if full {
-                return Ok(Begun::Over(Outcome::Stops(StopKind::Depth)));
-            }
-            Ok(Begun::Over(thrown_fresh(alloc, scripts, world, generator, function, exception)?))
+            let function = parts.0;
+            drop(parts);
+            let outcome =
+                throw_fresh(alloc, scripts, world, full, generator, function, exception)?;
+            Ok(Begun::Over(outcome))
         }
         How::Close => {
+            drop(parts);
             set_state(&mut world.heap, generator, GenState::Over);
             Ok(Begun::Over(Outcome::Gives(Value::None)))
         }
@@ -326,6 +400,13 @@ fn resume_paused(
     }
 }
 
+// A running generator is resumed.
+fn resume_running(alloc: Global, world: &mut World) -> Result<Outcome, AllocError>
+    ensures { IfOk result (λ o. EndsAs (λ a. ends.raises_text a ends.value_error (codes "generator already executing")) world.old world.new o) }
+{
+    raises_text(alloc, world, VALUE_ERROR, "generator already executing")
+}
+
 /// A generator is resumed.
 pub(crate) fn resumed(
     alloc: Global,
@@ -338,19 +419,23 @@ pub(crate) fn resumed(
     ensures { IfOk result (λ b. BeginsAs (λ a. ends.resumed scripts a generator (slice_get a.world.heap generator) how) full world.old world.new b) }
 {
     match state_in(&world.heap, generator) {
-        Some(GenState::Running) => Ok(Begun::Over(raises_text(
-            alloc,
-            world,
-            VALUE_ERROR,
-            "generator already executing",
-        )?)),
+        Some(GenState::Running) => {
+            drop(how);
+            Ok(Begun::Over(resume_running(alloc, world)?))
+        }
         Some(GenState::Fresh) => match generator_parts(alloc, &world.heap, generator)? {
             Some(parts) => resume_fresh(alloc, scripts, world, full, generator, parts, how),
             None => Ok(Begun::Over(Outcome::Unsaid)),
         },
         Some(GenState::Paused) => resume_paused(alloc, world, full, generator, how),
-        Some(GenState::Over) => Ok(Begun::Over(over_resumed(alloc, world, how)?)),
-        None => Ok(Begun::Over(Outcome::Unsaid)),
+        Some(GenState::Over) => {
+            let outcome = over_resumed(alloc, world, &how);
+            drop(how);
+            Ok(Begun::Over(outcome?))
+        }
+        None => {
+            drop(how);
+            Ok(Begun::Over(Outcome::Unsaid))
+        }
     }
 }
-

@@ -1,6 +1,6 @@
 //! Exceptions: how they are made, and their entries.
 
-ghost use Rattle.std.specs.Prelude.{◌≡◌, ◌<◌, IfOk, IfSome, OnOk, List, ℕ, length, slice_get, slice_set};
+ghost use Rattle.std.specs.Prelude.{◌≡◌, ◌<◌, ◌∷◌, [], IfOk, IfSome, OnOk, List, ℕ, length, slice_get, slice_set};
 ghost use Rattle.nu_calls.specs.Exceptions as exceptions;
 ghost use Rattle.nu_calls.specs.Ends as ends;
 ghost use Rattle.c_ends.specs.Outcomes.{EndsAs, entry_in, in_world};
@@ -95,6 +95,39 @@ pub(crate) fn raises(
     Ok(Outcome::Raises(exception))
 }
 
+/// A new exception of a class without arguments is raised, or the exception itself.
+pub(crate) fn raises_bare(
+    alloc: Global,
+    world: &mut World,
+    class: u64,
+) -> Result<Outcome, AllocError>
+    ensures { IfOk result (λ o. EndsAs (λ a. ends.raises a class []) world.old world.new o) }
+{
+    raises(alloc, world, class, Items::new(alloc))
+}
+
+// A list of one value.
+fn one(alloc: Global, value: Value) -> Result<Items, AllocError>
+    ensures { IfOk result (λ items. items ≡ value ∷ []) }
+{
+    let mut items = Items::new(alloc);
+    items.push(value)?;
+    Ok(items)
+}
+
+/// A new exception of a class with one argument is raised, or the exception itself.
+pub(crate) fn raises_with(
+    alloc: Global,
+    world: &mut World,
+    class: u64,
+    value: Value,
+) -> Result<Outcome, AllocError>
+    ensures { IfOk result (λ o. EndsAs (λ a. ends.raises a class (value ∷ [])) world.old world.new o) }
+{
+    let args = one(alloc, value)?;
+    raises(alloc, world, class, args)
+}
+
 /// A new exception of a class with a text is raised.
 pub(crate) fn raises_text(
     alloc: Global,
@@ -104,9 +137,8 @@ pub(crate) fn raises_text(
 ) -> Result<Outcome, AllocError>
     ensures { IfOk result (λ o. EndsAs (λ a. ends.raises_text a class text.now) world.old world.new o) }
 {
-    let mut args = Items::new(alloc);
-    args.push(Value::Str(RcStr::from_str(alloc, text)?))?;
-    raises(alloc, world, class, args)
+    let text = RcStr::from_str(alloc, text)?;
+    raises_with(alloc, world, class, Value::Str(text))
 }
 
 /// What an operation's end comes to at once.

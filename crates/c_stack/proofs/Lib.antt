@@ -1,3 +1,3 @@
 mod Registers
-mod Seats
+mod Keeping
 mod Plain

@@ -26,7 +26,7 @@ impl Model for Seats {
 }
 
 // There is a place of this number, and nothing is kept at those that are new.
-#[tactic(auto, using(crate::proofs::Seats::one_seat))]
+#[tactic(auto, using(crate::proofs::Keeping::one_seat))]
 fn reach(list: &mut Vec<Option<Boxed<Kept>>>, place: usize) -> Result<(), AllocError>
     ensures room { OnOk result (place < vec_len list.new) }
     ensures same { OnOk result ((x : Option Keeping) → keep_at list.new.items place x ≡ keep_at list.old.items place x) }
@@ -47,7 +47,7 @@ impl Seats {
     }
 
     /// Takes out what the generator of this number keeps, if it is paused.
-    #[tactic(auto, using(crate::proofs::Seats::kept_is, crate::proofs::Seats::kept_beyond, crate::proofs::Seats::keep_is))]
+    #[tactic(auto, using(crate::proofs::Keeping::kept_is, crate::proofs::Keeping::kept_beyond, crate::proofs::Keeping::keep_is))]
     pub fn take(&mut self, generator: u64) -> Option<Kept>
         ensures { MatchOption result (kept_at self.old generator ≡ None) (λ k. (kept_at self.old generator ≡ Some k) × (self.new ≡ keep_at self.old generator None)) }
     {
@@ -60,7 +60,7 @@ impl Seats {
     }
 
     /// The generator of this number keeps this.
-    #[tactic(auto, using(crate::proofs::Seats::keep_is))]
+    #[tactic(auto, using(crate::proofs::Keeping::keep_is))]
     pub fn keep(
         &mut self,
         alloc: Global,
