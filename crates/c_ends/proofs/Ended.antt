@@ -49,3 +49,6 @@ pub sent_some : (scripts : ℕ) (a : Scene) (g code : ℕ) (given cells : List V
     → fresh_resumed scripts a g code given cells (how.Send v) ≡ over (raises_text a type_error (codes "can't send non-None value to a just-started generator"))
 sent_some scripts a g code given cells value.None h = absurd (cc)
 sent_some scripts a g code given cells other h = refl
+
+pub raises_same : (class : ℕ) (args args' : List Value) (old new : World) (o : Outcome) → args ≡ args' → EndsAs (λ a. raises a class args) old new o → EndsAs (λ a. raises a class args') old new o
+raises_same class args args' old new o e h = λ input frames. ap (λ l. raises (in_world old input frames) class l) (sym e) ∙ h input frames

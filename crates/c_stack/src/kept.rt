@@ -1,6 +1,6 @@
 //! What paused generators keep.
 
-ghost use Rattle.std.specs.Prelude.{◌≡◌, ◌<◌, [], None, OnOk, Option, Some, vec_len, MatchOption};
+ghost use Rattle.std.specs.Prelude.{◌≡◌, ◌<◌, [], None, OnOk, Option, Some, slice_get, slice_set, vec_len, MatchOption};
 ghost use Rattle.nu_calls.specs.Surroundings.{keep_at, kept_at};
 ghost use Rattle.c_meaning.specs.declared.state.Kept.{Kept as Keeping};
 
@@ -37,6 +37,15 @@ fn reach(list: &mut Vec<Option<Boxed<Kept>>>, place: usize) -> Result<(), AllocE
     Ok(())
 }
 
+// What a place holds is taken out.
+fn vacate(list: &mut Vec<Option<Boxed<Kept>>>, place: usize) -> Option<Boxed<Kept>>
+    requires { place < vec_len list.old }
+    ensures value { slice_get list.old.items place ≡ Some result }
+    ensures after { list.new.items ≡ slice_set list.old.items place None }
+{
+    mem::replace(&mut list[place], None)
+}
+
 impl Seats {
     pub fn new(alloc: Global) -> Seats
         ensures { result ≡ [] }
@@ -55,8 +64,10 @@ impl Seats {
         if self.list.len() <= place {
             return None;
         }
-        let kept = mem::replace(&mut self.list[place], None)?;
-        Some(kept.into_inner())
+        match vacate(&mut self.list, place) {
+            Some(kept) => Some(kept.into_inner()),
+            None => None,
+        }
     }
 
     /// The generator of this number keeps this.
