@@ -136,7 +136,11 @@ pub(crate) fn give(
 
 /// The pending exception leaves the running function.
 #[inline(never)]
-pub(crate) fn fail(run: &mut Execution, alloc: Global, code: &Code) -> Result<Option<CEnd>, AllocError>
+pub(crate) fn fail(
+    run: &mut Execution,
+    alloc: Global,
+    code: &Code,
+) -> Result<Option<CEnd>, AllocError>
     ensures { IfOk result (λ end. (w : Outside) → meaning.fails table_rules code.now (state_of run.old w) run.old.running.pending ≡ follows end run.new w) }
 {
     match run.running.pending {

@@ -7,7 +7,7 @@ ghost use Rattle.c_meaning.specs.Step as meaning;
 ghost use Rattle.c_stack.specs.Frames.{site};
 ghost use Rattle.c_stack.specs.Light.{is_sent_plain};
 ghost use Rattle.c_stack.specs.Standing.{Outside, state_of, follows};
-ghost use Rattle.c_machine.specs.Effects.{resumer_of};
+ghost use Rattle.c_machine.specs.Effects.{kept_by, resumer_of};
 
 use crate::raises::{go_on, raise};
 use c_ends::generator_paused;
@@ -136,7 +136,7 @@ fn put_aside(
     number: u64,
     paused: Activation,
 ) -> Result<(), AllocError>
-    ensures { OnOk result (run.new ≡ record run.old { kept = keep_at run.old.kept generator (Some (meaning.kept_of table_rules code.now paused number)) }) }
+    ensures { OnOk result (run.new ≡ record run.old { kept = keep_at run.old.kept generator (Some (kept_by paused number)) }) }
 {
     let Activation {
         function,
@@ -159,7 +159,11 @@ fn put_aside(
 
 /// What was sent is the statement's value, and what was thrown is raised there.
 #[inline(never)]
-pub(crate) fn receive(run: &mut Execution, code: &Code, at: Site) -> Result<Option<CEnd>, AllocError>
+pub(crate) fn receive(
+    run: &mut Execution,
+    code: &Code,
+    at: Site,
+) -> Result<Option<CEnd>, AllocError>
     requires small { run.old.running.place + 1 < 2 ^ 64 }
     ensures sure { is_sent_plain run.old.running.purpose ≡ true → IsOk result }
     ensures receives { IfOk result (λ end. (w : Outside) → meaning.receives table_rules code.now (state_of run.old w) (site at) run.old.running.purpose ≡ follows end run.new w) }

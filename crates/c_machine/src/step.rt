@@ -45,9 +45,7 @@ fn act(
         }
         Statement::Store { to, what } => run.stored(*to, what),
         Statement::Goto(_) => Ok(run.jump(placed.goal)),
-        Statement::Branch { test, .. } => {
-            Ok(run.branch(placed.goal, test))
-        }
+        Statement::Branch { test, .. } => { Ok(run.branch(placed.goal, test)) }
         Statement::Again { exception, .. } => {
             let exception = held(&run.running.registers, exception)?;
             Ok(run.again(placed.goal, exception))

@@ -5,19 +5,19 @@ use Rattle.c_stack.specs.Frames.{site}
 use Rattle.c_stack.specs.Standing.{state_of}
 use Rattle.c_machine.proofs.Operations.{prepared, unprepared}
 use Rattle.c_machine.proofs.Taking.{comes_same, taken_quietly}
-use Rattle.c_machine.proofs.execution.Execution.operate.Goals as goal
+use Rattle.c_machine.proofs.operation.operate.Goals as goal
 
 pub returns-in-Ok-Some-clause-comes : goal.returns-in-Ok-Some-clause-comes
 returns-in-Ok-Some-clause-comes g c =
-    let x = c.args.self.now in
+    let x = c.args.run.now in
     let args = meaning.values x.running.registers c.args.arguments.now in
     comes_same _ (λ w. meaning.operates table_rules c.args.code.now (state_of x w) (site c.args.at) c.args.op args) _ _ _ _
-    (λ w. prepared c.args.code.now x c.prepare.new.self c.args.at w c.args.op args c.in-Ok-Some.end c.in-Ok-Some.ensures.world (sym c.in-Ok-Some.field-0-is ∙ c.in-Ok-Some.ensures.end))
+    (λ w. prepared c.args.code.now x c.prepare.new.run c.args.at w c.args.op args c.in-Ok-Some.end c.in-Ok-Some.ensures.world (sym c.in-Ok-Some.field-0-is ∙ c.in-Ok-Some.ensures.end))
     c.perform.ensures.comes
 
 pub returns-in-Ok-None-clause-comes : goal.returns-in-Ok-None-clause-comes
 returns-in-Ok-None-clause-comes g c =
-    let x = c.args.self.now in
+    let x = c.args.run.now in
     let args = meaning.values x.running.registers c.args.arguments.now in
     taken_quietly _ _ _ _
-    (λ w. sym (unprepared c.args.code.now x c.prepare.new.self c.args.at w c.args.op args c.in-Ok-None.ensures.world (sym c.in-Ok-None.field-0-is ∙ c.in-Ok-None.ensures.end)) ∙ c.undefined.ensures w)
+    (λ w. sym (unprepared c.args.code.now x c.prepare.new.run c.args.at w c.args.op args c.in-Ok-None.ensures.world (sym c.in-Ok-None.field-0-is ∙ c.in-Ok-None.ensures.end)) ∙ c.undefined.ensures w)

@@ -1,6 +1,6 @@
 use Rattle.std.proofs.Common.{◌≡◌, rules}
 use Rattle.c_machine.proofs.Taking.{taken_empty}
-use Rattle.c_machine.proofs.execution.Execution.perform.Goals as goal
+use Rattle.c_machine.proofs.operation.perform.Goals as goal
 
 pub returns-in-Ok-clause-comes : goal.returns-in-Ok-clause-comes
 returns-in-Ok-clause-comes g c = rw c.in-Raise.is (taken_empty _ _ _ _ c.in-Ok.ensures)
