@@ -75,12 +75,12 @@ pub body_back : (c : Code) (x y z : Execution) (w : Outside) (e : End) (o : Outc
     → EndsAs (λ a. ending_by x.running.purpose a e) y.world z.world o → z ≡ record y { world = z.world }
     → settles_at table_rules c (state_of z w) (site_in (placed_at c z.running)) (result_of o) ≡ to
     → body_ended table_rules c (state_of x w) e ≡ to
-body_back c x y z w e o to no g h is go =
+body_back c x y z w e o to other g h is go =
     let r = ending_by x.running.purpose (outside table_rules c.scripts (scene_of x w) y.running.function) e in
     let ends : r ≡ ending (scene_of (record y { world = z.world }) w) (result_of o) =
     ap (λ a. ending_by x.running.purpose a e) (outside_is c x y w g) ∙ h w.input (length y.below + 1) in
     ap (λ l. ended table_rules c (state_of x w) e x.running.purpose l) g.below
-    ∙ ended_by c (state_of x w) e x.running.purpose y.running y.below no
+    ∙ ended_by c (state_of x w) e x.running.purpose y.running y.below other
     ∙ settled_back c x y z.world w r (result_of o) to (sym g.kept) (sym g.uncaught) ends
     (sym (ap (λ k. settles_at table_rules c (state_of k w) (site_in (placed_at c k.running)) (result_of o)) is) ∙ go)
 
@@ -96,14 +96,22 @@ pauses_alone c s number (Some v) purpose.Module = refl
 pauses_alone c s number (Some v) (purpose.Call after) = refl
 pauses_alone c s number (Some v) (purpose.Resume g what closing old) = refl
 
+abbrev number_in : Option (ℕ × Bool) → ℕ
+number_in None = 0
+number_in (Some p) = p.0
+
+abbrev closing_in : Option (ℕ × Bool) → Bool
+closing_in None = false
+closing_in (Some p) = p.1
+
 pauses_by : (c : Code) (s : State) (number : ℕ) (v : Value) (p : Purpose) (a : Activation) (below : List Activation) (g : ℕ) (closing : Bool) → resumer_of p ≡ Some (g, closing)
     → pauses table_rules c s number (Some v) p (a ∷ below)
     ≡ back table_rules c (keeping s g (Some (kept_by s.running number))) a below (generator_paused (outside table_rules c.scripts (scene s.around) a.function) g closing v)
 pauses_by c s number v purpose.Module a below g closing h = absurd (cc)
 pauses_by c s number v (purpose.Call after) a below g closing h = absurd (cc)
 pauses_by c s number v (purpose.Resume g' what closing' old) a below g closing h =
-    let one : g' ≡ g = cc in
-    let two : closing' ≡ closing = cc in
+    let one : g' ≡ g = ap number_in h in
+    let two : closing' ≡ closing = ap closing_in h in
     rw (one, two) refl
 
 -- a generator pauses for the function that waits

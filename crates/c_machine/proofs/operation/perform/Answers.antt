@@ -1,9 +1,9 @@
 use Rattle.std.proofs.Common.{◌≡◌, rules}
-use Rattle.c_machine.proofs.Taking.{taken_empty}
+use Rattle.c_machine.proofs.Taking.{taken_quietly}
 use Rattle.c_machine.proofs.operation.perform.Goals as goal
 
 pub returns-in-Ok-clause-comes : goal.returns-in-Ok-clause-comes
-returns-in-Ok-clause-comes g c = rw c.in-Raise.is (taken_empty _ _ _ _ c.in-Ok.ensures)
+returns-in-Ok-clause-comes g c = taken_quietly _ _ _ _ c.in-Ok.ensures
 
 pub returns-in-Put-clause-comes : goal.returns-in-Put-clause-comes
 returns-in-Put-clause-comes g c =
