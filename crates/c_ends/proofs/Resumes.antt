@@ -1,5 +1,5 @@
 -- Generators that are resumed.
-use Rattle.std.proofs.Common.{◌≡◌, ℕ, zero, suc, ◌+◌, ◌-◌, ◌<◌, ◌≤◌, arith, length, slice_get, List, Option, Some, None, Bool, true, false, refl, ap, ◌∙◌, sym}
+use Rattle.std.proofs.Common.{◌≡◌, ℕ, zero, suc, ◌+◌, ◌-◌, ◌<◌, ◌≤◌, arith, length, slice_get, List, Option, Some, None, true, false, refl, ap}
 use Rattle.std.specs.Prelude.{codes, nat_eq, ◌||◌}
 use Rattle.nu_value.specs.Classes.{base_of, is_among, is_under, outward}
 use Rattle.nu_value.specs.declared.object.GenState.TheVariants as gen
@@ -9,15 +9,12 @@ use Rattle.nu_value.specs.declared.value.Value.{Value}
 use Rattle.nu_run.specs.declared.StopKind.TheVariants as stop
 use Rattle.op_forms.specs.declared.end.How.{How}
 use Rattle.op_forms.specs.declared.end.How.TheVariants as how
-use Rattle.op_forms.specs.declared.world.World.{World}
-use Rattle.nu_rows.specs.Rows as rows
 use Rattle.nu_calls.specs.Surroundings.{Scene}
 use Rattle.nu_calls.specs.Ends.{Began, Stops, begins, ending, fresh_resumed, is_full, over, over_resumed, paused_resumed, raises_text, resumed, value_error, Unsaid}
 use Rattle.c_meaning.specs.declared.state.Told.{Told}
 use Rattle.c_meaning.specs.declared.state.Told.TheVariants as told
 use Rattle.c_meaning.specs.Step.{told_of}
-use Rattle.c_ends.specs.declared.outcome.Begun.{Begun}
-use Rattle.c_ends.specs.Outcomes.{BeginsAs, begun_of, generator_parts, in_world, state_in, way_of}
+use Rattle.c_ends.specs.Outcomes.{generator_parts, state_in, way_of}
 
 -- where 1,000 frames are live, nothing begins
 pub begins_full : (a : Scene) (b : Began) → is_full a ≡ true → begins a b ≡ over (ending a (Stops stop.Depth))

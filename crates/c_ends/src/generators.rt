@@ -345,8 +345,7 @@ fn resume_fresh(
         How::Throw(exception) => {
             let function = parts.0;
             drop(parts);
-            let outcome =
-                throw_fresh(alloc, scripts, world, full, generator, function, exception)?;
+            let outcome = throw_fresh(alloc, scripts, world, full, generator, function, exception)?;
             Ok(Begun::Over(outcome))
         }
         How::Close => {

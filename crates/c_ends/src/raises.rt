@@ -152,4 +152,3 @@ pub(crate) fn at_once(alloc: Global, world: &mut World, end: OpEnd) -> Result<Ou
         OpEnd::Ask(..) | OpEnd::Resume(..) | OpEnd::Put(_) | OpEnd::Line => Ok(Outcome::Unsaid),
     }
 }
-

@@ -24,7 +24,7 @@ pub record IsFilled (left left' : Option (List ℕ)) (old new : Buffer) : Type 0
   pub drains : Drains left left' taken
   pub left : new.left ≡ old.left ++ taken
   pub ended : new.ended ≡ true → (old.ended ≡ true → IsEmpty left) → IsEmpty left'
-  pub open : old.ended ≡ true → (taken ≡ []) × (new.ended ≡ true)
+  pub beyond : old.ended ≡ true → (taken ≡ []) × (new.ended ≡ true)
 
 -- the count of the input's faults after a call
 abbrev pub CountsIn : {A : Type 0} → ℕ → ℕ → Result A Short → Type 0

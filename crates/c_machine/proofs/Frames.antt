@@ -1,5 +1,5 @@
 -- How functions begin, and how they end for those that wait.
-use Rattle.std.proofs.Common.{◌≡◌, ℕ, suc, ◌+◌, ◌-◌, List, [], ◌∷◌, ◌++◌, Option, Some, None, Bool, false, refl, sym, ap, ◌∙◌, append-nil, arith, length}
+use Rattle.std.proofs.Common.{◌≡◌, ℕ, ◌+◌, ◌-◌, List, [], ◌∷◌, Option, Some, None, Bool, false, refl, sym, ap, ◌∙◌, append-nil, arith, length}
 use Rattle.std.specs.Prelude.{nat_le}
 use Rattle.nu_run.specs.Steps.{Stepped, More}
 use Rattle.nu_value.specs.declared.value.Value.{Value}

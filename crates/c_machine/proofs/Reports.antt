@@ -1,6 +1,5 @@
 -- The text of an exception that leaves a module.
-use Rattle.std.proofs.Common.{◌≡◌, ℕ, ◌+◌, ◌-◌, List, [], ◌∷◌, ◌++◌, Option, Some, None, Bool, true, false, refl, sym, ap, subst, ◌∙◌, append-nil, length, slice_get}
-use Rattle.nu_run.specs.declared.End as run_end
+use Rattle.std.proofs.Common.{◌≡◌, ℕ, ◌+◌, ◌-◌, List, [], ◌∷◌, Option, Some, None, true, false, refl, sym, ap, subst, ◌∙◌, append-nil, length, slice_get}
 use Rattle.nu_run.specs.Steps.{Stepped, Halt}
 use Rattle.nu_value.specs.declared.object.Object.{Object}
 use Rattle.nu_value.specs.declared.object.Object.TheVariants as object
@@ -14,19 +13,19 @@ use Rattle.op_forms.specs.Doing.{DidIn}
 use Rattle.op_rules.specs.Binding.{bind}
 use Rattle.op_rules.specs.TableRules.{table_rules}
 use Rattle.nu_rows.specs.Rows.{End}
-use Rattle.nu_calls.specs.Ends.{Gives, Over, Result, begun, call_ended, outside, world_of}
+use Rattle.nu_calls.specs.Ends.{Gives, Over, Result, begun, call_ended, world_of}
 use Rattle.c_meaning.specs.declared.code.Code.{Code}
 use Rattle.c_meaning.specs.declared.state.Purpose.{Purpose}
 use Rattle.c_meaning.specs.declared.state.Purpose.TheVariants as purpose
 use Rattle.c_meaning.specs.declared.state.Uncaught.{Uncaught}
-use Rattle.c_meaning.specs.State.{State, halted, printing, undefined}
+use Rattle.c_meaning.specs.State.{State, halted, undefined}
 use Rattle.c_meaning.specs.Step.{asks_function, asks_report, body_ended, ended, report_begins, report_began, report_ended, reported}
 use Rattle.c_stack.specs.declared.execution.Execution.{Execution}
 use Rattle.c_ends.specs.declared.outcome.Begun.{Begun}
 use Rattle.c_ends.specs.declared.outcome.Outcome.{Outcome}
 use Rattle.c_ends.specs.Outcomes.{BeginsAs, EndsAs, begun_of, in_world, result_of}
 use Rattle.c_machine.specs.Effects.{function_if, function_in, is_module, left_alone}
-use Rattle.c_stack.specs.Standing.{Outside, scene_of, state_of}
+use Rattle.c_stack.specs.Standing.{Outside, state_of}
 use Rattle.c_machine.specs.Effects.{is_function}
 
 function_none : (c : Code) (s : State) (u : Uncaught) (f : ℕ) (o : Option Object) → function_if f o ≡ None → asks_function table_rules c s u f o ≡ halted s (reported table_rules c u (Gives value.None))

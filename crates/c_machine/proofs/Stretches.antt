@@ -1,6 +1,5 @@
 -- What a machine does in several steps.
-use Rattle.std.proofs.Common.{◌≡◌, ℕ, zero, ◌+◌, ◌-◌, ◌^◌, ◌<◌, ◌≤◌, List, [], ◌++◌, refl, sym, ◌∙◌, ap, subst, arith, append_assoc, append-nil, suc, Bool, false, true, Option, Some, None, Result, Ok, Err}
-use Rattle.std.specs.Prelude.{min}
+use Rattle.std.proofs.Common.{◌≡◌, ℕ, ◌+◌, ◌<◌, ◌≤◌, List, [], ◌++◌, refl, sym, ◌∙◌, ap, subst, arith, append_assoc, append-nil, suc, Bool, false, true, Option, Some, None, Result, Ok, Err}
 use Rattle.nu_base.specs.Outside.{Adds, AddsFront}
 use Rattle.nu_run.specs.declared.End.{End}
 use Rattle.nu_run.specs.Runs.{Going, Ended, printed_by, IsPrefix}
@@ -11,7 +10,6 @@ use Rattle.c_meaning.specs.declared.code.Code.{Code}
 use Rattle.c_meaning.specs.State.{State, printed_in}
 use Rattle.c_meaning.specs.Step.{step}
 use Rattle.c_meaning.proofs.Grows.{step_grows}
-use Rattle.c_stack.specs.declared.execution.Execution.{Execution}
 use Rattle.c_stack.specs.Standing.{Outside, Standing, state_of, stands, printing}
 use Rattle.c_machine.specs.Walks.{Leads}
 use Rattle.c_machine.specs.declared.ending.Stepped.{Stepped as Answer}

@@ -1,5 +1,5 @@
 -- What is kept by number, in a list that reaches so far.
-use Rattle.std.proofs.Common.{◌≡◌, ℕ, zero, suc, ◌+◌, ◌<◌, ◌≤◌, List, [], ◌∷◌, ◌++◌, Option, Some, None, refl, ap, arith, length}
+use Rattle.std.proofs.Common.{◌≡◌, ℕ, zero, suc, ◌<◌, ◌≤◌, List, [], ◌∷◌, ◌++◌, Option, Some, None, refl, ap, arith, length}
 use Rattle.std.specs.Prelude.{slice_get, slice_set}
 use Rattle.nu_calls.specs.Surroundings.{keep_at, kept_at}
 

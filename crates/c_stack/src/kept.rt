@@ -72,12 +72,7 @@ impl Seats {
 
     /// The generator of this number keeps this.
     #[tactic(auto, using(crate::proofs::Keeping::keep_is))]
-    pub fn keep(
-        &mut self,
-        alloc: Global,
-        generator: u64,
-        kept: Kept,
-    ) -> Result<(), AllocError>
+    pub fn keep(&mut self, alloc: Global, generator: u64, kept: Kept) -> Result<(), AllocError>
         ensures { OnOk result (self.new ≡ keep_at self.old generator (Some kept)) }
     {
         let place = generator as usize;

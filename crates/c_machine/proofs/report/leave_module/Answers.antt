@@ -1,4 +1,4 @@
-use Rattle.std.proofs.Common.{◌≡◌, [], ◌∷◌, ◌++◌, None, rules, ap, sym, ◌∙◌}
+use Rattle.std.proofs.Common.{◌≡◌, [], ◌∷◌, ◌++◌, rules, ap, sym, ◌∙◌}
 use Rattle.nu_run.specs.declared.End.TheVariants as run_end
 use Rattle.nu_run.specs.Steps.{Halt}
 use Rattle.nu_calls.specs.Scripts.{report_function}
