@@ -1,9 +1,9 @@
 //! The input, by lines.
 
-ghost use Rattle.std.specs.Prelude.{◌≡◌, ◌++◌, ◌<◌, ◌⊎◌, [], IfErr, IfOk, List, OnOk, ℕ, length, false, true};
+ghost use Rattle.std.specs.Prelude.{◌≡◌, ◌++◌, ◌<◌, ◌⊎◌, [], IfErr, IfOk, List, MatchOption, OnOk, ℕ, length, false, true};
 ghost use Rattle.nu_calls.specs.Lines as lines;
 ghost use Rattle.c_input.specs.declared.input.Short.TheVariants as short;
-ghost use Rattle.c_input.specs.Lines.{CountsIn, IsFilled, is_whole, seen};
+ghost use Rattle.c_input.specs.Lines.{CountsIn, IsFilled, is_good, is_whole, seen};
 
 use nu_base::Source;
 use nu_run::Text;
@@ -39,8 +39,9 @@ pub enum Line {
 }
 
 // How many bytes stand before the first LF.
+#[tactic(auto, using(crate::proofs::Lined::before_most, crate::proofs::Lined::before_front, crate::proofs::Lined::before_on, crate::proofs::Lined::before_here))]
 fn line_length(bytes: &[u8]) -> usize
-    ensures { result ≡ length (lines.before_lf bytes.now) }
+    ensures count { result ≡ length (lines.before_lf bytes.now) }
 {
     for place in 0..bytes.len() {
         if bytes[place] == b'\n' {
@@ -48,6 +49,28 @@ fn line_length(bytes: &[u8]) -> usize
         }
     }
     bytes.len()
+}
+
+// The bytes before the first LF.
+#[tactic(auto, using(crate::proofs::Lined::before_most, crate::proofs::Lined::before_front))]
+fn first_line(bytes: &[u8]) -> &[u8]
+    ensures { result.now ≡ lines.before_lf bytes.now }
+{
+    let count = line_length(bytes);
+    &bytes[..count]
+}
+
+// The text of a line, if it is one.
+fn text_of(line: &[u8]) -> Option<&str>
+    ensures { MatchOption result (is_good line.now ≡ false) (λ text. (text.now ≡ line.now) × (is_good line.now ≡ true)) }
+{
+    if LIMIT <= line.len() {
+        return None;
+    }
+    match str::from_utf8(line) {
+        Ok(text) => Some(text),
+        Err(_) => None,
+    }
 }
 
 // Without one CR at the end.
@@ -111,6 +134,7 @@ impl Buffer {
     }
 
     /// Takes of the input until the next line stands in it whole, or the input ends.
+    #[tactic(auto, using(crate::proofs::Filling::filled_none))]
     pub fn fill<I: Source>(&mut self, alloc: Global, input: &mut I) -> Result<(), Short>
         ensures ok { OnOk result (IsFilled (I.left input.old) (I.left input.new) self.old self.new) }
         ensures whole { OnOk result ((self.new.ended ≡ true) ⊎ (is_whole self.new.left ≡ true)) }
@@ -123,21 +147,20 @@ impl Buffer {
     }
 
     /// The next line, which is no longer left.
+    #[tactic(auto, using(crate::proofs::Lined::line_none, crate::proofs::Lined::line_bad, crate::proofs::Lined::line_last, crate::proofs::Lined::line_first, crate::proofs::Lined::before_most))]
     pub fn next_line(&mut self, alloc: Global) -> Result<Line, AllocError>
         ensures line { IfOk result (λ line. (rest : List ℕ) → (is_whole self.old.left ≡ false → rest ≡ []) → lines.line_of (self.old.left ++ rest) ≡ seen line (self.new.left ++ rest)) }
         ensures ended { OnOk result (self.new.ended ≡ self.old.ended) }
     {
         let bytes = self.left.as_slice();
-        let count = line_length(bytes);
         if bytes.is_empty() {
             return Ok(Line::None);
         }
-        if LIMIT <= count {
-            return Ok(Line::Bad);
-        }
-        let Ok(line) = str::from_utf8(&bytes[..count]) else {
+        let first = first_line(bytes);
+        let Some(line) = text_of(first) else {
             return Ok(Line::Bad);
         };
+        let count = first.len();
         if count == bytes.len() {
             let line = RcStr::from_str(alloc, line)?;
             self.left = Text::new(alloc);

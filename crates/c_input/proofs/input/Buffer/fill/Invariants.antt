@@ -1,4 +1,4 @@
-use Rattle.std.proofs.Common.{◌≡◌, ◌+◌, ◌-◌, Bool, true, false, length}
+use Rattle.std.proofs.Common.{◌≡◌, ◌+◌, ◌-◌, Bool, true, false, length, ℕ}
 use Rattle.c_input.specs.Lines.{IsFilled}
 use Rattle.c_input.proofs.input.Buffer.fill.Given as goal
 
