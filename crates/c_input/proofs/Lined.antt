@@ -1,12 +1,12 @@
 -- The first line of bytes.
-use Rattle.std.proofs.Common.{◌≡◌, ℕ, zero, suc, ◌+◌, ◌-◌, ◌<◌, ◌≤◌, List, [], ◌∷◌, ◌++◌, Option, Some, None, Bool, true, false, refl, sym, ap, subst, ◌∙◌, arith, length, take, drop, append-nil, zero-add, get_or, drop-cons, add-one}
+use Rattle.std.proofs.Common.{◌≡◌, ℕ, suc, ◌+◌, ◌-◌, ◌<◌, ◌≤◌, List, [], ◌∷◌, ◌++◌, Option, Some, None, Bool, true, false, refl, sym, ap, subst, ◌∙◌, arith, length, take, drop, append-nil, zero-add, get_or, drop-cons, add-one}
 use Rattle.std.proofs.lemmas.List.{length-drop, reverse-append, reverse-reverse, take_all}
 use Rattle.std.proofs.lemmas.Bool.{false_from_ne_true}
 use Rattle.std.proofs.lemmas.Bool.Decides.{nat_tests}
 use Rattle.std.proofs.lemmas.Str.{IsUtf8-from_is_utf8, is_utf8-from_IsUtf8}
 use Rattle.std.specs.Prelude.{◌==◌, ◌||◌, ◌&&◌, not, if◌then◌else◌, nat_le, nat_lt, reverse}
 use Rattle.std.specs.Str.{IsUtf8, is_utf8}
-use Rattle.nu_calls.specs.Lines.{NextLine, NoLine, ALine, BadLine, before_lf, behind_lf, checked_line, good_line, line_of, without_cr, without_first_cr}
+use Rattle.nu_calls.specs.Lines.{NoLine, ALine, BadLine, before_lf, behind_lf, checked_line, good_line, line_of, without_cr, without_first_cr}
 use Rattle.c_input.specs.Lines.{has_lf, is_good, is_whole}
 
 -- ---- CR

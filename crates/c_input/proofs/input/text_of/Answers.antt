@@ -1,7 +1,3 @@
-use Rattle.std.proofs.Common.{◌≡◌, true, false, length, arith, ap, ◌∙◌}
-use Rattle.std.specs.Prelude.{nat_le, not, ◌&&◌}
-use Rattle.std.specs.Str.{is_utf8}
-use Rattle.std.proofs.lemmas.Bool.Decides.{nat_tests}
 use Rattle.c_input.proofs.Lined.{good_is, odd_is}
 use Rattle.c_input.proofs.input.text_of.Goals as goal
 

@@ -1,4 +1,4 @@
-use Rattle.std.proofs.Common.{◌≡◌, ◌<◌, ◌+◌, ◌++◌, true, length, drop, rules, ap, sym, ◌∙◌, arith}
+use Rattle.std.proofs.Common.{◌≡◌, ◌<◌, ◌+◌, ◌++◌, true, length, drop, rules, ap, sym, ◌∙◌}
 use Rattle.nu_calls.specs.Lines as lines
 use Rattle.c_input.specs.Lines.{is_good}
 use Rattle.c_input.proofs.Lined.{before_most, behind_is, line_first}
