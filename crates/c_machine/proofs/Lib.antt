@@ -1,13 +1,12 @@
-mod Registers
 mod Traces
 mod Arguments
+mod Pending
+mod Frames
+mod Reports
 mod Rows
 mod Operations
-mod InPlace
-mod Modules
 mod Marks
 mod Sinks
 mod Walks
 mod Stretches
 mod Taking
-mod Places

@@ -14,10 +14,11 @@ use Rattle.nu_calls.specs.Ends.{begun, begun_by}
 use Rattle.c_meaning.specs.declared.code.Code.{Code}
 use Rattle.c_meaning.specs.State.{undefined}
 use Rattle.c_meaning.specs.Step.{began, operates}
-use Rattle.c_machine.specs.declared.execution.Execution.{Execution}
-use Rattle.c_machine.specs.declared.operation.Site.{Site}
-use Rattle.c_machine.specs.Effects.{answered, after_answer, site}
-use Rattle.c_machine.specs.Standing.{Outside, state_of}
+use Rattle.c_stack.specs.declared.execution.Execution.{Execution}
+use Rattle.c_stack.specs.declared.frames.Site.{Site}
+use Rattle.c_machine.specs.Effects.{answered, after_answer}
+use Rattle.c_stack.specs.Frames.{site}
+use Rattle.c_stack.specs.Standing.{Outside, state_of}
 
 abbrev end_of : Answer → OpEnd
 end_of a = a.end

@@ -1,6 +1,5 @@
 -- What a machine does in several steps.
-use Rattle.std.proofs.Common.{◌≡◌, ℕ, zero, ◌+◌, ◌-◌, ◌^◌, ◌<◌, ◌≤◌, List, [], ◌++◌, refl, sym, ◌∙◌, ap, subst, arith, append_assoc, append-nil, suc, Bool, false, true, Option, Some, None, Result, Ok, Err}
-use Rattle.std.specs.Prelude.{min}
+use Rattle.std.proofs.Common.{◌≡◌, ℕ, ◌+◌, ◌<◌, ◌≤◌, List, [], ◌++◌, refl, sym, ◌∙◌, ap, subst, arith, append_assoc, append-nil, suc, Bool, false, true, Option, Some, None, Result, Ok, Err}
 use Rattle.nu_base.specs.Outside.{Adds, AddsFront}
 use Rattle.nu_run.specs.declared.End.{End}
 use Rattle.nu_run.specs.Runs.{Going, Ended, printed_by, IsPrefix}
@@ -11,8 +10,7 @@ use Rattle.c_meaning.specs.declared.code.Code.{Code}
 use Rattle.c_meaning.specs.State.{State, printed_in}
 use Rattle.c_meaning.specs.Step.{step}
 use Rattle.c_meaning.proofs.Grows.{step_grows}
-use Rattle.c_machine.specs.declared.execution.Execution.{Execution}
-use Rattle.c_machine.specs.Standing.{Outside, Standing, state_of, stands, printing}
+use Rattle.c_stack.specs.Standing.{Outside, Standing, state_of, stands, printing}
 use Rattle.c_machine.specs.Walks.{Leads}
 use Rattle.c_machine.specs.declared.ending.Stepped.{Stepped as Answer}
 use Rattle.c_machine.specs.declared.ending.Stepped.TheVariants as answer
@@ -146,31 +144,3 @@ runs_cut_at p q same n t a b c x input held held' held'' end less begins going h
 
 pub counted_more : (steps n : ℕ) → counted (counted steps n) 1 ≡ counted steps (n + 1)
 counted_more steps n = let e : suc n ≡ n + 1 = omega arith in ap (counted steps) e
-
--- so many steps more, that print nothing
-pub stretch_far : (p : Code) (n m : ℕ) (a b c : Standing) (x : List ℕ) → b.end ≡ None → c.end ≡ None → Stretch p n n a b x
-    → ((w : Outside) → Leads (step table_rules p) printed_in m m (More (state_of b.execution w)) (More (state_of c.execution w))) → Stretch p (n + m) (n + m) a c x
-stretch_far p n m a b c x going goes h more w =
-    let W = printing w x in
-    let begin : More (state_of b.execution W) ≡ stands b W = sym (stands_going b W going) in
-    let end : More (state_of c.execution W) ≡ stands c W = sym (stands_going c W goes) in
-    let next : Leads (step table_rules p) printed_in m m (stands b W) (stands c W) =
-    subst (λ z. Leads (step table_rules p) printed_in m m z (stands c W)) begin (subst (Leads (step table_rules p) printed_in m m (More (state_of b.execution W))) end (more W)) in
-    leads_on (step table_rules p) printed_in n m n m _ _ _ (h w) next
-
--- one step more that is taken in place
-pub leads_far : (p : Code) (n : ℕ) (a b c : Execution) → ((w : Outside) → Leads (step table_rules p) printed_in n n (More (state_of a w)) (More (state_of b w)))
-    → ((w : Outside) → step table_rules p (state_of b w) ≡ More (state_of c w)) → (w : Outside) → Leads (step table_rules p) printed_in (n + 1) (n + 1) (More (state_of a w)) (More (state_of c w))
-leads_far p n a b c h one w =
-    subst (Leads (step table_rules p) printed_in (n + 1) (n + 1) (More (state_of a w))) (one w)
-    (leads_on (step table_rules p) printed_in n 1 n 1 _ _ _ (h w) (leads_step (step table_rules p) printed_in (state_of b w)))
-
-pub counted_is : (steps n : ℕ) → steps < 2 ^ 64 → counted steps n ≡ min (steps + n) (2 ^ 64 - 1)
-counted_is steps zero h = grind arith
-counted_is steps (suc n) h = let before = counted_is steps n h in grind (arith, before)
-
-pub counted_sum : (steps n m : ℕ) → counted (counted steps n) m ≡ counted steps (n + m)
-counted_sum steps n zero = let e : n ≡ n + 0 = omega arith in ap (counted steps) e
-counted_sum steps n (suc m) =
-    let e : suc (n + m) ≡ n + suc m = omega arith in
-    ap (λ k. min (k + 1) (2 ^ 64 - 1)) (counted_sum steps n m) ∙ ap (counted steps) e

@@ -6,8 +6,8 @@ use Rattle.nu_run.specs.Steps.{Stepped}
 use Rattle.c_meaning.specs.State.{State}
 use Rattle.c_machine.specs.declared.ending.Trouble.{Trouble}
 use Rattle.c_machine.specs.declared.ending.Trouble.TheVariants as trouble
-use Rattle.c_machine.specs.declared.execution.Execution.{Execution}
-use Rattle.c_machine.specs.Standing.{Outside, follows, printing}
+use Rattle.c_stack.specs.declared.execution.Execution.{Execution}
+use Rattle.c_stack.specs.Standing.{Outside, follows, printing}
 use Rattle.c_machine.specs.Calls.{Comes, IsTaken, printed_after}
 use Rattle.c_machine.proofs.Sinks.{adds_nothing}
 

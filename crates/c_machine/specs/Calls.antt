@@ -12,8 +12,8 @@ use Rattle.c_machine.specs.declared.ending.Stepped.{Stepped as Answer}
 use Rattle.c_machine.specs.declared.ending.Stepped.TheVariants as answer
 use Rattle.c_machine.specs.declared.ending.Trouble.{Trouble}
 use Rattle.c_machine.specs.declared.ending.Trouble.TheVariants as trouble
-use Rattle.c_machine.specs.declared.execution.Execution.{Execution}
-use Rattle.c_machine.specs.Standing.{Outside, Standing, follows, stands, printing}
+use Rattle.c_stack.specs.declared.execution.Execution.{Execution}
+use Rattle.c_stack.specs.Standing.{Outside, Standing, follows, stands, printing}
 use Rattle.c_machine.specs.Walks.{Leads}
 use Rattle.c_machine.specs.Machines.{Seen}
 

@@ -2,10 +2,7 @@ pub mod Simple
 pub mod Values
 pub mod Light
 pub mod Starting
-pub mod Standing
 pub mod Effects
-pub mod InPlace
-pub mod Places
 pub mod Walks
 pub mod Machines
 pub mod Calls

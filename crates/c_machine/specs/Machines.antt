@@ -14,7 +14,7 @@ use Rattle.c_machine.specs.declared.ending.Stepped.{Stepped as Answer}
 use Rattle.c_machine.specs.declared.ending.Stepped.TheVariants as answer
 use Rattle.c_machine.specs.declared.ending.Trouble.{Trouble}
 use Rattle.c_machine.specs.declared.ending.Trouble.TheVariants as trouble
-use Rattle.c_machine.specs.Standing.{Standing, stands}
+use Rattle.c_stack.specs.Standing.{Standing, stands}
 
 -- the code that it runs, where the run stands, how many steps it took, and whether a call answered a trouble
 pub record Seen : Type 0 where

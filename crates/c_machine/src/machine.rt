@@ -4,20 +4,17 @@ ghost use Rattle.std.specs.Prelude.{◌≡◌, ◌≢◌, ◌↔◌, ◌≤◌, 
 ghost use Rattle.std.specs.Option.{option_copied};
 ghost use Rattle.c_meaning.specs.declared.program.CProgram as program;
 ghost use Rattle.op_rules.specs.TableRules.{table_rules};
-ghost use Rattle.nu_run.specs.Steps.{More};
-ghost use Rattle.c_meaning.specs.State.{printed_in};
-ghost use Rattle.c_meaning.specs.Step.{step};
-ghost use Rattle.c_machine.specs.Effects.{placed_for};
+ghost use Rattle.c_meaning.specs.Step.{placed_at, step};
 ghost use Rattle.c_machine.specs.Light.{is_light, IsLightFor};
-ghost use Rattle.c_machine.specs.Standing.{Outside, state_of};
-ghost use Rattle.c_machine.specs.Walks.{Leads};
+ghost use Rattle.c_stack.specs.Standing.{Outside, state_of};
 ghost use Rattle.c_machine.specs.Machines.{IsFresh, answer_at_rest, run_from};
 ghost use Rattle.c_machine.specs.Calls.{CountsCall, GaveUp, Runs, answer_by, Takes, Walks, counted};
 
 use crate::ending::{Stepped, Trouble};
-use crate::execution::Execution;
-use crate::starting::code_of;
+use crate::starting::{begin_first, code_of};
+use crate::step::step;
 use c_meaning::{CEnd, CProgram, Code};
+use c_stack::Execution;
 use nu_base::{Memory, Sink, Source};
 use nu_value::Items;
 use std::alloc::Global;
@@ -53,7 +50,7 @@ pub fn start(alloc: Global, program: CProgram) -> Result<Machine, Memory>
         drop(code);
         return Err(Memory);
     };
-    let Ok(end) = execution.begin_first(alloc, &code) else {
+    let Ok(end) = begin_first(&mut execution, alloc, &code) else {
         drop(execution);
         drop(code);
         return Err(Memory);
@@ -96,17 +93,20 @@ impl Machine {
         ensures input { input.new ≡ input.old }
 
         // A store, a jump, a branch and the script's return take no memory where no text is copied.
-        ensures sure { answer_at_rest self.old ≡ None → is_light self.old.standing.execution (placed_for self.old.code self.old.standing.execution) ≡ true
+        ensures sure { answer_at_rest self.old ≡ None → is_light self.old.standing.execution (placed_at self.old.code self.old.standing.execution.running) ≡ true
             → IsOk result }
     {
         let _ = input;
         if let Some(answer) = self.at_rest() {
             return answer;
         }
-        match self
-            .execution
-            .step(self.alloc, &self.code, &mut self.buffer, out)
-        {
+        match step(
+            &mut self.execution,
+            self.alloc,
+            &self.code,
+            &mut self.buffer,
+            out,
+        ) {
             Ok(end) => {
                 let stepped = answer_by(&end);
                 self.end = end;
@@ -157,24 +157,8 @@ impl Machine {
                 Stepped::Ended => return Ok(Stepped::Ended),
             }
             taken += 1;
-            taken += self.hurry(steps - taken);
         }
         Ok(Stepped::More)
-    }
-
-    // Takes steps in place, as far as that goes, at most so many, and answers how many.
-    #[tactic(auto, using(crate::proofs::Stretches::counted_is))]
-    fn hurry(&mut self, most: u64) -> u64
-        ensures few { result ≤ most }
-        ensures steps { self.new.steps ≡ counted self.old.steps result }
-        ensures code { self.new.code ≡ self.old.code }
-        ensures end { self.new.standing.end ≡ self.old.standing.end }
-        ensures failed { self.new.failed ≡ self.old.failed }
-        ensures leads { (w : Outside) → Leads (step table_rules self.old.code) printed_in result result (More (state_of self.old.standing.execution w)) (More (state_of self.new.standing.execution w)) }
-    {
-        let taken = self.execution.hurry(&self.code, most);
-        self.steps = self.steps.saturating_add(taken);
-        taken
     }
 
     // What it answers if it can take no step.

@@ -4,15 +4,13 @@ ghost use Rattle.std.specs.Prelude.{◌≡◌, IfOk, map, reverse};
 ghost use Rattle.op_rules.specs.TableRules.{table_rules};
 ghost use Rattle.c_meaning.specs.Code as spec;
 ghost use Rattle.c_meaning.specs.Run as runs;
-ghost use Rattle.c_machine.specs.Starting.{first_execution};
-ghost use Rattle.c_machine.specs.Standing.{Outside, state_of, follows};
+ghost use Rattle.c_stack.specs.Standing.{Outside, state_of, follows};
 
-use crate::execution::{BUILT_IN_NAMES, Execution, SCRIPT_NAMES};
 use crate::placing::statements_of;
+use crate::report::begin_module;
 use c_meaning::{Body, CEnd, CProgram, Code, Function};
-use nu_value::{Codes, Header, Slots};
-use op_forms::World;
-use op_rules::first_heap;
+use c_stack::Execution;
+use nu_value::{Codes, Header};
 use sqlite_items::Items;
 use std::alloc::{AllocError, Global};
 
@@ -72,38 +70,18 @@ fn codes_of(alloc: Global, mut backwards: Vec<Header>) -> Result<Codes, AllocErr
     Ok(codes)
 }
 
-impl Execution {
-    /// Before any function has begun.
-    pub(crate) fn new(alloc: Global, codes: Codes) -> Result<Execution, AllocError>
-        ensures { IfOk result (λ x. x ≡ first_execution codes) }
-    {
-        Ok(Execution {
-            function: 0,
-            place: 0,
-            registers: Slots::new(alloc),
-            pending: None,
-            world: World {
-                heap: first_heap(alloc)?,
-                module: SCRIPT_NAMES,
-                builtins: BUILT_IN_NAMES,
-                codes,
-            },
-        })
-    }
-
-    /// The module of the built-in text begins, or that of the script where there is none.
-    pub(crate) fn begin_first(
-        &mut self,
-        alloc: Global,
-        code: &Code,
-    ) -> Result<Option<CEnd>, AllocError>
-        ensures { IfOk result (λ end. (w : Outside) → runs.begins_first table_rules code.now (state_of self.old w) ≡ follows end self.new w) }
-    {
-        let number = if (code.scripts as usize) < code.bodies.len() {
-            code.scripts
-        } else {
-            0
-        };
-        self.begin(alloc, code, number)
-    }
+/// The module of the built-in text begins, or that of the script where there is none.
+pub(crate) fn begin_first(
+    run: &mut Execution,
+    alloc: Global,
+    code: &Code,
+) -> Result<Option<CEnd>, AllocError>
+    ensures { IfOk result (λ end. (w : Outside) → runs.begins_first table_rules code.now (state_of run.old w) ≡ follows end run.new w) }
+{
+    let number = if (code.scripts as usize) < code.bodies.len() {
+        code.scripts
+    } else {
+        0
+    };
+    begin_module(run, alloc, code, number)
 }

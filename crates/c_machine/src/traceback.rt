@@ -5,7 +5,6 @@ ghost use Rattle.nu_calls.specs.Traceback as spec;
 ghost use Rattle.c_machine.specs.Values.{text_at};
 
 use nu_run::Text;
-use nu_text::RcStr;
 use nu_value::{Entries, Entry, Heap, Object};
 use sqlite_items::Items;
 use std::alloc::{AllocError, Global};
@@ -64,28 +63,19 @@ fn class_name(heap: &Heap, class: u64) -> &str
     }
 }
 
-// All but the exception's own text.
-fn head_text(alloc: Global, file: &str, heap: &Heap, exception: u64) -> Result<String, AllocError>
-    ensures { IfOk result (λ text. string_bytes text ≡ spec.head_text file.now heap.now exception) }
+/// All of a traceback but the exception's own text.
+pub(crate) fn head_text(
+    alloc: Global,
+    file: &str,
+    heap: &Heap,
+    exception: u64,
+) -> Result<Text, AllocError>
+    ensures { IfOk result (λ text. text ≡ spec.head_text file.now heap.now exception) }
 {
     let mut text = String::from_str(alloc, "Traceback (most recent call last):\n")?;
     if let Some(Object::Exception { class, entries, .. }) = heap.get(exception) {
         push_entries(&mut text, file, entries)?;
         text.push_str(class_name(heap, *class))?;
     }
-    Ok(text)
-}
-
-/// The text of an exception that has no text of its own.
-pub(crate) fn uncaught_text(
-    alloc: Global,
-    file: &RcStr,
-    heap: &Heap,
-    exception: u64,
-) -> Result<Text, AllocError>
-    ensures { IfOk result (λ text. text ≡ spec.head_text file.now heap.now exception ++ codes "\n") }
-{
-    let mut text = head_text(alloc, file.as_str(), heap, exception)?;
-    text.push_str("\n")?;
     Items::from_slice(alloc, text.as_bytes())
 }

@@ -1,16 +1,12 @@
 use Rattle.std.proofs.Common.{◌≡◌, ◌+◌, [], ◌++◌, refl, sym, ◌∙◌, ap, subst, arith, rules, None, Err, IsOk, true}
-use Rattle.nu_run.specs.Steps.{More}
 use Rattle.op_rules.specs.TableRules.{table_rules}
-use Rattle.c_meaning.specs.State.{printed_in}
-use Rattle.c_meaning.specs.Step.{step}
+use Rattle.c_meaning.specs.Step.{placed_at, step}
 use Rattle.c_machine.specs.Machines.{answer_at_rest}
 use Rattle.c_machine.specs.Calls.{Runs, Walks, counted}
-use Rattle.c_machine.specs.Effects.{placed_for}
 use Rattle.c_machine.specs.Light.{is_light}
-use Rattle.c_machine.specs.Standing.{Outside, state_of, stands, printing}
-use Rattle.c_machine.specs.Walks.{Leads}
+use Rattle.c_stack.specs.Standing.{Outside, state_of, stands, printing}
 use Rattle.c_machine.proofs.Sinks.{adds_nothing, adds_more}
-use Rattle.c_machine.proofs.Stretches.{Stretch, stands_going, rest_none, rest_ended, at_work, answer_more, answer_ended, stretch_on, stretch_far, stretch_end, stretch_rest, run_goes, run_ends, runs_cut_at, counted_more, counted_sum}
+use Rattle.c_machine.proofs.Stretches.{Stretch, stands_going, rest_none, rest_ended, at_work, answer_more, answer_ended, stretch_on, stretch_end, stretch_rest, run_goes, run_ends, runs_cut_at, counted_more}
 use Rattle.c_machine.proofs.machine.Machine.run.Goals as goal
 
 pub returns-in-Some-clause-runs : goal.returns-in-Some-clause-runs
@@ -54,7 +50,7 @@ returns-in_err-step-clause-sure g c = λ works light.
     let x = c.loop-taken.self.standing.execution in
     let one = light c.loop-taken.taken x stretch.0 c.loop-taken-test.true (λ w. (stretch.2 w).exact ∙ stands_going c.loop-taken.self.standing (printing w stretch.0) going) in
     let same : Err c.in_err-step.field-0.0 ≡ c.from_residual.result = search rules in
-    subst IsOk same (c.in_err-step.ensures.sure before.works (subst (λ k. is_light x (placed_for k x) ≡ true) (sym before.code) one))
+    subst IsOk same (c.in_err-step.ensures.sure before.works (subst (λ k. is_light x (placed_at k x.running) ≡ true) (sym before.code) one))
 
 pub returns-in-Ended-clause-runs : goal.returns-in-Ended-clause-runs
 returns-in-Ended-clause-runs g c = λ works left.
@@ -86,25 +82,20 @@ pub loop-taken-preserved : goal.loop-taken-preserved
 loop-taken-preserved g c =
     let before = c.loop-taken.invariant in
     let said = rw c.in-More.is at c.in_ok-step.ensures in
-    let far = c.hurry-taken.ensures in
     let going = (rest_none _ _ before.works).1 in
     let goes = answer_more _ said.answers in
-    let code : c.step.new.self.code ≡ c.args.self.now.code = said.code ∙ before.code in
     record {
-      few = omega (arith, c.loop-taken-test.true, far.few);
-      code = far.code ∙ code;
-      works = at_work _ _ (far.failed ∙ said.fails) (far.end ∙ goes);
-      steps =
-          far.steps ∙ ap (λ n. counted n c.hurry-taken.result) (said.steps before.works ∙ ap (λ n. counted n 1) before.steps ∙ counted_more c.args.self.now.steps c.loop-taken.taken)
-          ∙ counted_sum c.args.self.now.steps (c.loop-taken.taken + 1) c.hurry-taken.result;
+      few = omega (arith, c.loop-taken-test.true);
+      code = said.code ∙ before.code;
+      works = at_work _ _ said.fails goes;
+      steps = said.steps before.works ∙ ap (λ n. counted n 1) before.steps ∙ counted_more c.args.self.now.steps c.loop-taken.taken;
       input = said.input ∙ before.input;
       faults = said.count ∙ before.faults;
       stretch =
           let stretch = before.stretch in
           let now = said.takes before.works in
           let one = stretch_on c.args.self.now.code c.loop-taken.taken _ _ _ _ _ going stretch.2 (subst (λ k. (w : Outside) → step table_rules k (state_of c.loop-taken.self.standing.execution w) ≡ stands c.step.new.self.standing (printing w now.piece)) before.code now.leads) in
-          let more = subst (λ k. (w : Outside) → Leads (step table_rules k) printed_in c.hurry-taken.result c.hurry-taken.result (More (state_of c.step.new.self.standing.execution w)) (More (state_of c.hurry-taken.new.self.standing.execution w))) code far.leads in
-          (stretch.0 ++ now.piece, adds_more _ _ _ _ _ stretch.1 now.adds, stretch_far c.args.self.now.code (c.loop-taken.taken + 1) c.hurry-taken.result _ _ _ _ goes (far.end ∙ goes) one more);
+          (stretch.0 ++ now.piece, adds_more _ _ _ _ _ stretch.1 now.adds, one);
     }
 
 pub returns-clause-runs : goal.returns-clause-runs

@@ -1,0 +1,8 @@
+use Rattle.std.proofs.Common.{[]}
+use Rattle.std.proofs.lemmas.Result.{IfOk-weaker}
+use Rattle.c_ends.proofs.Ended.{raises_same}
+use Rattle.c_ends.proofs.raises.raises_bare.Goals as goal
+
+pub returns : goal.returns
+returns c =
+    IfOk-weaker c.raises.result _ _ (λ o h. raises_same c.args.class c.new.result [] c.args.world.now c.raises.new.world o c.new.ensures h) c.raises.ensures

@@ -1,0 +1,55 @@
+-- The input of a machine: what was taken of it.
+use Rattle.std.specs.Prelude.{◌≡◌, ℕ, List, [], ◌++◌, Option, Some, None, Bool, true, ◌||◌, ◌&&◌, not, nat_le, nat_lt, length, Result, Ok, Err, ⊤}
+use Rattle.std.specs.Str.{is_utf8}
+use Rattle.nu_base.specs.Outside.{Faulted}
+use Rattle.nu_calls.specs.Lines.{NextLine, NoLine, ALine, BadLine, before_lf}
+use Rattle.c_input.specs.declared.input.Short.{Short}
+use Rattle.c_input.specs.declared.input.Short.TheVariants as short
+use Rattle.c_input.specs.declared.input.Buffer.{Buffer}
+use Rattle.c_input.specs.declared.input.Line.{Line}
+use Rattle.c_input.specs.declared.input.Line.TheVariants as line
+
+-- these bytes were taken, and the others are left, where that is told
+abbrev pub Drains : Option (List ℕ) → Option (List ℕ) → List ℕ → Type 0
+Drains None new taken = ⊤
+Drains (Some bytes) new taken = (rest : List ℕ) × (bytes ≡ taken ++ rest) × (new ≡ Some rest)
+
+-- nothing is left, where that is told
+abbrev pub IsEmpty : Option (List ℕ) → Type 0
+IsEmpty None = ⊤
+IsEmpty (Some bytes) = bytes ≡ []
+
+-- nothing is left any longer, where it was told what was
+abbrev pub Empties : Option (List ℕ) → Option (List ℕ) → Type 0
+Empties None new = ⊤
+Empties (Some bytes) new = new ≡ Some []
+
+-- what was taken came behind what the buffer had; at the end nothing is left, and behind that nothing is taken
+pub record IsFilled (left left' : Option (List ℕ)) (old new : Buffer) : Type 0 where
+  pub taken : List ℕ
+  pub drains : Drains left left' taken
+  pub grows : new.left ≡ old.left ++ taken
+  pub ended : new.ended ≡ true → (old.ended ≡ true → IsEmpty left) → Empties left left'
+  pub beyond : old.ended ≡ true → (taken ≡ []) × (new.ended ≡ true)
+
+-- the count of the input's faults after a call
+abbrev pub CountsIn : {A : Type 0} → ℕ → ℕ → Result A Short → Type 0
+CountsIn old new (Ok answer) = new ≡ old
+CountsIn old new (Err short.Memory) = new ≡ old
+CountsIn old new (Err short.Failed) = Faulted old new
+
+abbrev pub has_lf : List ℕ → Bool
+has_lf bytes = nat_lt (length (before_lf bytes)) (length bytes)
+
+-- what follows these bytes doesn't change what their first line is
+abbrev pub is_whole : List ℕ → Bool
+is_whole bytes = nat_le 1048576 (length bytes) || has_lf bytes
+
+-- bytes that can be a line
+abbrev pub is_good : List ℕ → Bool
+is_good bytes = not (nat_le 1048576 (length bytes)) && is_utf8 bytes
+
+abbrev pub seen : Line → List ℕ → NextLine
+seen line.None rest = NoLine
+seen (line.Text text) rest = ALine text rest
+seen line.Bad rest = BadLine
