@@ -31,6 +31,6 @@ pub use natives::{NATIVES, Native};
 pub use object::{GenState, Object, ViewKind};
 pub use pairs::Pairs;
 pub use ranges::range_len;
-pub use same::{Sameness, equality_is_an_equivalence, same_value, same_within};
+pub use same::{Sameness, equality_is_an_equivalence, object_of, same_value, same_within};
 pub use sequence::{Items, Sequence, Slots};
 pub use value::Value;

@@ -41,7 +41,8 @@ pub fn kind_name<'a>(heap: &'a Heap, value: &Value) -> &'a str
     }
 }
 
-fn class_name(heap: &Heap, class: u64) -> &str
+/// The name of a class.
+pub fn class_name(heap: &Heap, class: u64) -> &str
     ensures { result.now ≡ spec.class_name (slice_get heap.now class) }
 {
     match heap.get(class) {

@@ -28,8 +28,8 @@ pub use family::Family;
 pub use first_objects::{CLASS_NAMES, NATIVE_FUNCTIONS, first_heap};
 pub use folding::fold;
 pub use kinds::{
-    kind_name, no_item_changes, no_iterator, no_operand, no_operands, no_order, not_subscriptable,
-    raised,
+    class_name, kind_name, no_item_changes, no_iterator, no_operand, no_operands, no_order,
+    not_subscriptable, raised,
 };
 pub use laws::{finishing_keeps_sound, rows_keep_sound, the_start_is_sound};
 pub use special::{Init, Special};

@@ -10,7 +10,7 @@ use crate::collecting::copied;
 use crate::objects::unbuilt;
 use nu_value::{Heap, Items, Names, Object, Value};
 use op_forms::{After, OpEnd};
-use op_rules::{Method, kind_name, raised};
+use op_rules::{Method, class_name, kind_name, raised};
 use rt_class::is_under;
 use std::alloc::{AllocError, Global};
 
@@ -39,15 +39,6 @@ fn made_of(alloc: Global, heap: &Heap, class: u64, args: Items) -> Result<Object
             class,
             fields: Names::new(alloc),
         })
-    }
-}
-
-fn class_name(heap: &Heap, class: u64) -> &str
-    ensures { result.now ≡ kinds.class_name (slice_get heap.now class) }
-{
-    match heap.get(class) {
-        Some(Object::Class { name, .. }) => name.as_str(),
-        _ => "object",
     }
 }
 

@@ -9,8 +9,8 @@ ghost use Rattle.op_rules.specs.Calls as spec;
 
 use crate::collecting::copied;
 use crate::given::keywords_of;
-use crate::objects::{object_of, unbuilt};
-use nu_value::{Codes, Heap, Items, Names, Object, Value};
+use crate::objects::unbuilt;
+use nu_value::{Codes, Heap, Items, Names, Object, Value, object_of};
 use op_forms::OpEnd;
 use std::alloc::{AllocError, Global};
 

@@ -6,8 +6,7 @@ ghost use Rattle.op_rules.specs.Calls as spec;
 ghost use Rattle.rt_call.specs.Pairs.{keyword_at};
 
 use crate::collecting::copied;
-use crate::objects::object_of;
-use nu_value::{Heap, Items, Names, Object, Pairs, Value};
+use nu_value::{Heap, Items, Names, Object, Pairs, Value, object_of};
 use std::alloc::{AllocError, Global};
 
 fn keyword_into(name: &Value, value: &Value, names: &mut Names) -> Result<(), AllocError>

@@ -23,5 +23,4 @@ pub use collecting::copied;
 pub use functions::bind;
 pub use given::{items_of, names_of};
 pub use laws::each_argument_has_its_parameter;
-pub use objects::object_of;
 pub use op_rules::Bound;

@@ -5,9 +5,9 @@ ghost use Rattle.std.specs.Fmt.{signed_decimal};
 ghost use Rattle.op_forms.specs.declared.end.OpEnd.TheVariants as opend;
 ghost use Rattle.op_rules.specs.NativeCalls as spec;
 
-use crate::objects::{object_of, unbuilt};
+use crate::objects::unbuilt;
 use nu_text::RcStr;
-use nu_value::{Heap, Names, Object, Value};
+use nu_value::{Heap, Names, Object, Value, object_of};
 use op_forms::{How, OpEnd};
 use op_rules::{kind_name, raised};
 use rt_class::found_in;

@@ -9,16 +9,6 @@ use nu_value::{Heap, Object, Value};
 use op_forms::OpEnd;
 use std::alloc::AllocError;
 
-/// The object that a value is.
-pub fn object_of<'a>(heap: &'a Heap, value: &Value) -> Option<&'a Object>
-    ensures { option_copied result ≡ object_of heap.now value.now }
-{
-    match value {
-        Value::Obj(number) => heap.get(*number),
-        _ => None,
-    }
-}
-
 pub fn unbuilt() -> Result<OpEnd, AllocError>
     ensures { IfOk result (λ e. e ≡ answers.unbuilt) }
 {

@@ -10,12 +10,12 @@ ghost use Rattle.nu_value.specs.declared.object.Object.TheVariants as object;
 ghost use Rattle.op_rules.specs.Attributes as spec;
 ghost use Rattle.rt_class.specs.Outcomes.{doing_of};
 
-use crate::lookups::{class_of, found_in, is_under, object_of};
+use crate::lookups::{class_of, found_in, is_under};
 use crate::outcome::Outcome;
 use crate::specials::{any_special, kind_error};
 use nu_run::StopKind;
 use nu_text::RcStr;
-use nu_value::{Codes, Heap, Items, Object, Value};
+use nu_value::{Codes, Heap, Items, Object, Value, object_of};
 use op_forms::OpEnd;
 use op_rules::{
     Special, is_dict_method, is_generator_method, is_list_method, is_text_method, is_tuple_method,

@@ -7,11 +7,11 @@ ghost use Rattle.op_rules.specs.Exceptions as spec;
 ghost use Rattle.op_rules.specs.Subclasses as subclasses;
 ghost use Rattle.rt_class.specs.Outcomes.{doing_of};
 
-use crate::lookups::{class_of, found_in, is_exception_class, is_under, is_under_value, object_of};
+use crate::lookups::{class_of, found_in, is_exception_class, is_under, is_under_value};
 use crate::outcome::{Outcome, carry_out};
 use crate::specials::{asking, one_item};
 use nu_run::StopKind;
-use nu_value::{Heap, Items, Object, Value};
+use nu_value::{Heap, Items, Object, Value, object_of};
 use op_forms::{After, OpEnd};
 use op_rules::{Init, raised};
 use std::alloc::{AllocError, Global};

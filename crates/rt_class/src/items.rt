@@ -4,10 +4,9 @@ ghost use Rattle.std.specs.Prelude.{◌≡◌, IfOk};
 ghost use Rattle.nu_value.specs.Same.{object_of};
 ghost use Rattle.op_rules.specs.Specials as spec;
 
-use crate::lookups::object_of;
 use crate::specials::{asking, instance_special, kind_error, one_item, three_items, two_items};
 use nu_run::StopKind;
-use nu_value::{Heap, Object, Value};
+use nu_value::{Heap, Object, Value, object_of};
 use op_forms::{After, OpEnd};
 use op_rules::{Special, no_item_changes, no_iterator, not_subscriptable};
 use std::alloc::{AllocError, Global};

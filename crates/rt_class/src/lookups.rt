@@ -11,16 +11,6 @@ use nu_value::{Heap, Object, Value};
 
 const BASE_EXCEPTION: u64 = 19;
 
-/// The object that a value is.
-pub fn object_of<'a>(heap: &'a Heap, value: &Value) -> Option<&'a Object>
-    ensures { option_copied result ≡ object_of heap.now value.now }
-{
-    match value {
-        Value::Obj(number) => heap.get(*number),
-        _ => None,
-    }
-}
-
 fn own_value<'a>(heap: &'a Heap, class: u64, name: &str) -> Option<&'a Value>
     ensures { option_copied result ≡ value_at (classes.own_of (slice_get heap.now class)) name.now }
 {

@@ -7,11 +7,11 @@ ghost use Rattle.op_forms.specs.Answers.{names_of};
 ghost use Rattle.op_rules.specs.Classes as spec;
 ghost use Rattle.rt_class.specs.Outcomes.{doing_of};
 
-use crate::lookups::{is_under, object_of};
+use crate::lookups::is_under;
 use crate::outcome::Outcome;
 use nu_run::StopKind;
 use nu_text::RcStr;
-use nu_value::{Heap, Names, Object, Value};
+use nu_value::{Heap, Names, Object, Value, object_of};
 use op_forms::OpEnd;
 use op_rules::raised;
 use std::alloc::{AllocError, Global};

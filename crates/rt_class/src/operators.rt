@@ -4,10 +4,9 @@ ghost use Rattle.std.specs.Prelude.{◌≡◌, IfOk};
 ghost use Rattle.nu_value.specs.Same.{object_of};
 ghost use Rattle.op_rules.specs.Specials as spec;
 
-use crate::lookups::object_of;
 use crate::specials::two_items;
 use nu_run::StopKind;
-use nu_value::{Heap, Names, Object, Value};
+use nu_value::{Heap, Names, Object, Value, object_of};
 use op_forms::{After, Op, OpEnd};
 use op_rules::{ask, no_operands, no_order};
 use std::alloc::{AllocError, Global};

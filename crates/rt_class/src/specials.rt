@@ -6,8 +6,8 @@ ghost use Rattle.op_forms.specs.declared.end.OpEnd.TheVariants as opend;
 ghost use Rattle.op_rules.specs.Kinds as kinds;
 ghost use Rattle.op_rules.specs.Specials as spec;
 
-use crate::lookups::{found_in, object_of};
-use nu_value::{Heap, Items, Names, Object, Value};
+use crate::lookups::found_in;
+use nu_value::{Heap, Items, Names, Object, Value, object_of};
 use op_forms::{After, OpEnd};
 use op_rules::{Special, kind_name, raised};
 use std::alloc::{AllocError, Global};

@@ -9,9 +9,9 @@ ghost use Rattle.op_rules.specs.Dicts as spec;
 ghost use Rattle.op_rules.specs.Views.{pairs_in};
 
 use crate::changes::put_into;
-use crate::keys::{TYPE_ERROR, object_of, raised_of};
+use crate::keys::{TYPE_ERROR, raised_of};
 use nu_run::StopKind;
-use nu_value::{Atom, Heap, Items, Key, Names, Object, Pairs, Value};
+use nu_value::{Atom, Heap, Items, Key, Names, Object, Pairs, Value, object_of};
 use op_forms::{After, OpEnd};
 use op_rules::{ask, raised};
 use std::alloc::{AllocError, Global};

@@ -32,16 +32,6 @@ pub fn raised_of(
     raised(alloc, class, text.as_str())
 }
 
-/// The object that a value is.
-pub fn object_of<'a>(heap: &'a Heap, value: &Value) -> Option<&'a Object>
-    ensures { option_copied result ≡ object_of heap.now value.now }
-{
-    match value {
-        Value::Obj(number) => heap.get(*number),
-        _ => None,
-    }
-}
-
 /// The number of the first list or dict in a value, in which tuples may be looked into so deep.
 #[cycle(unhashable)]
 fn unhashable_at(room: u32, heap: &Heap, value: &Value) -> Option<u64>

@@ -6,9 +6,8 @@ ghost use Rattle.op_forms.specs.Fits as fits;
 ghost use Rattle.op_rules.specs.Dicts as spec;
 
 use crate::filling::two;
-use crate::keys::object_of;
 use nu_run::StopKind;
-use nu_value::{Heap, Names, Object, Value};
+use nu_value::{Heap, Names, Object, Value, object_of};
 use op_forms::{After, Op, OpEnd};
 use op_rules::{ask, no_operand, no_operands, no_order};
 use std::alloc::{AllocError, Global};

@@ -7,8 +7,7 @@ ghost use Rattle.op_forms.specs.Doing.{given};
 ghost use Rattle.op_rules.specs.Keys as keys;
 ghost use Rattle.op_rules.specs.Table.{row};
 
-use crate::keys::object_of;
-use nu_value::{Atom, Key, Object, Value};
+use nu_value::{Atom, Key, Object, Value, object_of};
 use op_forms::World;
 
 // The key of an integer or a text.

@@ -9,9 +9,11 @@ ghost use Rattle.op_rules.specs.Keys as keys;
 ghost use Rattle.op_rules.specs.NameRows as names;
 ghost use Rattle.op_rules.specs.Views as spec;
 
-use crate::keys::{key_error, key_or_end, object_of};
+use crate::keys::{key_error, key_or_end};
 use nu_run::StopKind;
-use nu_value::{Heap, Integer, Key, Object, Pairs, Sameness, Value, ViewKind, same_value};
+use nu_value::{
+    Heap, Integer, Key, Object, Pairs, Sameness, Value, ViewKind, object_of, same_value,
+};
 use op_forms::OpEnd;
 use op_rules::not_subscriptable;
 use std::alloc::{AllocError, Global};

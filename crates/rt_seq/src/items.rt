@@ -8,9 +8,9 @@ ghost use Rattle.op_rules.specs.Items as spec;
 
 use crate::edits::{Edit, edit_at};
 use crate::errors::{no_index, no_len, out_of_range};
-use crate::lists::{SIZE_LIMIT, copied, make, object_of};
+use crate::lists::{SIZE_LIMIT, copied, make};
 use nu_run::StopKind;
-use nu_value::{Heap, Integer, Items, Object, Value, range_len};
+use nu_value::{Heap, Integer, Items, Object, Value, object_of, range_len};
 use op_forms::OpEnd;
 use op_rules::{no_item_changes, not_subscriptable};
 use std::alloc::{AllocError, Global};

@@ -12,16 +12,6 @@ use std::alloc::{AllocError, Global};
 /// The most items of a list or tuple.
 pub const SIZE_LIMIT: u128 = 16_777_216;
 
-/// The object that a value is.
-pub fn object_of<'a>(heap: &'a Heap, value: &Value) -> Option<&'a Object>
-    ensures { option_copied result ≡ object_of heap.now value.now }
-{
-    match value {
-        Value::Obj(number) => heap.get(*number),
-        _ => None,
-    }
-}
-
 /// Puts values at the end of a list.
 pub fn push_all(items: &mut Items, values: &[Value]) -> Result<(), AllocError>
     ensures { OnOk result (items.new ≡ items.old ++ values.now) }

@@ -13,10 +13,10 @@ ghost use Rattle.op_rules.specs.TextRows as texts;
 
 use crate::asking::ask_two;
 use crate::edits::{Edit, edit_at};
-use crate::lists::{SIZE_LIMIT, joined, make, object_of, repeated};
+use crate::lists::{SIZE_LIMIT, joined, make, repeated};
 use crate::search::place_of_value;
 use nu_run::StopKind;
-use nu_value::{Heap, Items, Object, Value, range_len};
+use nu_value::{Heap, Items, Object, Value, object_of, range_len};
 use op_forms::{Op, OpEnd};
 use op_rules::{asks_in, no_operands};
 use std::alloc::{AllocError, Global};

@@ -9,9 +9,8 @@ ghost use Rattle.op_rules.specs.Kinds as kinds;
 ghost use Rattle.op_rules.specs.Ordering as spec;
 ghost use Rattle.rt_seq.specs.Alike as alike;
 
-use crate::lists::object_of;
 use nu_run::StopKind;
-use nu_value::{Heap, Object, Sameness, Value, same_within};
+use nu_value::{Heap, Object, Sameness, Value, object_of, same_within};
 use op_forms::{Op, OpEnd};
 use op_rules::no_order;
 use std::alloc::{AllocError, Global};

@@ -8,10 +8,9 @@ ghost use Rattle.op_rules.specs.Table.{row};
 ghost use Rattle.rt_seq.specs.Steps.{item_over};
 
 use crate::items::item_at;
-use crate::lists::object_of;
 use crate::slices::item_from;
 use crate::steps::move_at;
-use nu_value::{Heap, Object, Value};
+use nu_value::{Heap, Object, Value, object_of};
 use op_forms::{Op, World};
 use op_rules::{Computed, compute};
 

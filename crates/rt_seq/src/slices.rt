@@ -6,9 +6,9 @@ ghost use Rattle.op_forms.specs.Doing.{Did};
 ghost use Rattle.op_rules.specs.Slices as spec;
 
 use crate::errors::{TYPE_ERROR, VALUE_ERROR};
-use crate::lists::{make, object_of};
+use crate::lists::make;
 use nu_run::StopKind;
-use nu_value::{Heap, Items, Object, Value, range_len};
+use nu_value::{Heap, Items, Object, Value, object_of, range_len};
 use op_forms::OpEnd;
 use op_rules::{not_subscriptable, raised};
 use std::alloc::{AllocError, Global};

@@ -15,7 +15,7 @@ ghost use Rattle.rt_text.specs.Sizes as sizes;
 use crate::rows::{SIZE_LIMIT, give_text};
 use nu_run::StopKind;
 use nu_text::RcStr;
-use nu_value::{Heap, Items, Names, Object, Value};
+use nu_value::{Heap, Items, Names, Object, Value, object_of};
 use op_forms::{After, OpEnd};
 use op_rules::{ask, raised};
 use std::alloc::{AllocError, Global};
@@ -109,16 +109,6 @@ fn join_values(alloc: Global, text: &RcStr, values: &[Value]) -> Result<OpEnd, A
         sized_join(alloc, text, values)
     } else {
         raised(alloc, TYPE_ERROR, "sequence item: expected str instance")
-    }
-}
-
-/// The object that a value is.
-pub fn object_of<'a>(heap: &'a Heap, value: &Value) -> Option<&'a Object>
-    ensures { option_copied result ≡ object_of heap.now value.now }
-{
-    match value {
-        Value::Obj(number) => heap.get(*number),
-        _ => None,
     }
 }
 

@@ -8,12 +8,12 @@ ghost use Rattle.op_forms.specs.Doing.{Did};
 ghost use Rattle.op_rules.specs.TextMethods as spec;
 ghost use Rattle.op_rules.specs.TextParts as parts;
 
-use crate::joins::{join_method, object_of, sized_join};
+use crate::joins::{join_method, sized_join};
 use crate::parts::{are_digits, count_cuts, first_cut, is_ascii, pieces, stripped, words};
 use crate::rows::give_text;
 use nu_run::StopKind;
 use nu_text::{RcStr, characters};
-use nu_value::{Heap, Integer, Items, Object, Value};
+use nu_value::{Heap, Integer, Items, Object, Value, object_of};
 use op_forms::OpEnd;
 use op_rules::raised;
 use std::alloc::{AllocError, Global};

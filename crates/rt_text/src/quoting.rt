@@ -15,6 +15,7 @@ use nu_run::StopKind;
 use nu_text::characters;
 use nu_value::{Codes, Header, Heap, Object, Value};
 use op_forms::OpEnd;
+use op_rules::class_name;
 use std::alloc::{AllocError, Global};
 use std::fmt::Write;
 
@@ -195,15 +196,6 @@ fn give_method(
     match heap.get(function) {
         Some(Object::Function { code, .. }) => give_scope(alloc, "<method ", codes.get(*code)),
         _ => Ok(OpEnd::Stop(StopKind::Unbuilt)),
-    }
-}
-
-fn class_name(heap: &Heap, class: u64) -> &str
-    ensures { result.now ≡ kinds.class_name (slice_get heap.now class) }
-{
-    match heap.get(class) {
-        Some(Object::Class { name, .. }) => name.as_str(),
-        _ => "object",
     }
 }
 

@@ -8,9 +8,8 @@ ghost use Rattle.runtime_table.specs.Keywords.{text_at};
 ghost use Rattle.std.specs.List.{list_all};
 
 use nu_text::is_built_in_name;
-use nu_value::{Object, Pairs, Value};
+use nu_value::{Object, Pairs, Value, object_of};
 use op_forms::{ArgumentKind, Op, World};
-use rt_call::object_of;
 
 fn is_text(value: &Value) -> bool
     ensures { result ≡ is_text value.now }

@@ -12,10 +12,10 @@ ghost use Rattle.op_forms.specs.Doing.{Did, DidIn};
 ghost use Rattle.op_forms.specs.Sound.{AfterIn, EndIn, IsIn, Sound};
 
 use nu_run::StopKind;
-use nu_value::{Heap, Integer, Object, Value};
+use nu_value::{Heap, Integer, Object, Value, object_of};
 use op_forms::{After, OpEnd, World};
 use op_rules::{finishing_keeps_sound, raised};
-use rt_call::{copied, object_of};
+use rt_call::copied;
 use rt_text::join_after;
 use std::alloc::{AllocError, Global};
 

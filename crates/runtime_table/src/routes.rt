@@ -5,10 +5,9 @@ ghost use Rattle.nu_value.specs.Same.{object_of};
 ghost use Rattle.op_rules.specs.Routes as spec;
 
 use crate::table::value_family;
-use nu_value::{Heap, Object, Value};
+use nu_value::{Heap, Object, Value, object_of};
 use op_forms::Op;
 use op_rules::{Family, Route};
-use rt_call::object_of;
 
 /// Whether a value is a dict without keys.
 pub fn is_empty_dict(heap: &Heap, dict: &Value) -> bool
