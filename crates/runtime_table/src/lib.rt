@@ -7,10 +7,12 @@ mod calling;
 mod finishing;
 mod named;
 mod names;
+mod quick;
 mod routes;
 mod table;
 
 pub use arguments::fits;
 pub use finishing::finish;
 pub use op_forms::World;
+pub use quick::{quick_one, quick_two};
 pub use table::apply;
