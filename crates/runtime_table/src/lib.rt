@@ -8,6 +8,7 @@ mod finishing;
 mod named;
 mod names;
 mod quick;
+mod quick_names;
 mod routes;
 mod table;
 
@@ -15,4 +16,5 @@ pub use arguments::fits;
 pub use finishing::finish;
 pub use op_forms::World;
 pub use quick::{quick_one, quick_two};
+pub use quick_names::{quick_global, quick_set_global};
 pub use table::apply;
