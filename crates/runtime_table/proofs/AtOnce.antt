@@ -13,26 +13,26 @@ use Rattle.nu_value.specs.declared.value.Value.{Value}
 use Rattle.nu_value.specs.declared.value.Value.TheVariants as value
 use Rattle.nu_value.specs.declared.same.Sameness.TheVariants as same
 use Rattle.nu_value.specs.Names.{NameList, place_of, value_at, with_name, with_value}
-use Rattle.nu_value.specs.Same.{identical, verdict}
+use Rattle.nu_value.specs.Same.{identical, is_set, object_of, verdict}
 use Rattle.op_forms.specs.declared.end.OpEnd.{OpEnd}
 use Rattle.op_forms.specs.declared.end.OpEnd.TheVariants as opend
 use Rattle.op_forms.specs.declared.op.Op.{Op}
 use Rattle.op_forms.specs.declared.op.Op.TheVariants as op
 use Rattle.op_forms.specs.declared.world.World.{World}
 use Rattle.op_forms.specs.declared.signature.ArgumentKind.TheVariants as kind
-use Rattle.op_forms.specs.Answers.{Answer, names_of}
-use Rattle.op_forms.specs.Doing.{Bind, answer, ends, given, put_at}
-use Rattle.op_forms.specs.Fits.{fits, is_in}
+use Rattle.op_forms.specs.Answers.{Answer, after, names_of}
+use Rattle.op_forms.specs.Doing.{Bind, Hold, answer, ends, given, put_at}
+use Rattle.op_forms.specs.Fits.{fits, is_cell, is_in}
 use Rattle.op_forms.specs.Signature.{arguments, further}
 use Rattle.op_rules.specs.Binding.{bound}
 use Rattle.op_rules.specs.Comparisons.{eq_row, ne_row, give_bool, is_filled, same_end}
 use Rattle.op_rules.specs.Comparisons as comparisons
 use Rattle.op_rules.specs.Families.{object_family}
 use Rattle.op_rules.specs.IntRows.{int_row}
-use Rattle.op_rules.specs.NameRows.{global_row, not_defined, value_or}
+use Rattle.op_rules.specs.NameRows.{cellget_row, content, freeget_row, global_row, no_free, no_local, not_defined, set_or, value_or}
 use Rattle.op_rules.specs.Table.{row}
 use Rattle.op_rules.specs.Table as table
-use Rattle.runtime_table.specs.Quick.{IsQuick, Leads, is_number_op, is_sign_op, object_truth, plain_truth}
+use Rattle.runtime_table.specs.Quick.{IsQuick, Leads, held_value, is_number_op, is_sign_op, object_truth, plain_truth}
 
 -- an operation that does nothing but give a value
 ended : (w : World) (e : OpEnd) (v : Value) → e ≡ opend.Give v → bound w (answer w (ends e)) ≡ given w.heap v
@@ -144,6 +144,67 @@ isnot_quick w a b h k = (two_fit op.IsNot w a b refl refl h k, refl)
 pub index_quick : (w : World) (a b : Value) (r : Option Value) → is_in (length w.heap) a ≡ true → is_in (length w.heap) b ≡ true → IfSome r (λ v. row op.Index w (a ∷ b ∷ []) ≡ given w.heap v) → IfSome r (λ v. IsQuick op.Index w (a ∷ b ∷ []) v)
 index_quick w a b None h k e = tt
 index_quick w a b (Some v) h k e = (two_fit op.Index w a b refl refl h k, e)
+
+-- two texts are equal where they are the same
+pub eq_texts : (w : World) (x y : List ℕ) → IsQuick op.Eq w (value.Str x ∷ value.Str y ∷ []) (value.Bool (bytes_eq x y))
+eq_texts w x y = (refl, ended w (eq_row w.heap (value.Str x) (value.Str y)) (value.Bool (bytes_eq x y)) (same_by (λ t. t) (bytes_eq x y)))
+
+pub ne_texts : (w : World) (x y : List ℕ) → IsQuick op.Ne w (value.Str x ∷ value.Str y ∷ []) (value.Bool (not (bytes_eq x y)))
+ne_texts w x y = (refl, ended w (ne_row w.heap (value.Str x) (value.Str y)) (value.Bool (not (bytes_eq x y))) (same_by not (bytes_eq x y)))
+
+-- ---- attributes, locals and cells
+
+pub attr_quick : (w : World) (a : Value) (name : List ℕ) (r : Option Value) → is_in (length w.heap) a ≡ true → IfSome r (λ v. row op.Attr w (a ∷ value.Str name ∷ []) ≡ given w.heap v) → IfSome r (λ v. IsQuick op.Attr w (a ∷ value.Str name ∷ []) v)
+attr_quick w a name None h e = tt
+attr_quick w a name (Some v) h e = (rw h refl, e)
+
+pub local_quick : (w : World) (a : Value) (name : List ℕ) → is_in (length w.heap) a ≡ true → IsQuick op.Local w (a ∷ value.Str name ∷ []) a
+local_quick w value.Unset name h = absurd (cc)
+local_quick w value.None name h = (refl, refl)
+local_quick w (value.Bool b) name h = (refl, refl)
+local_quick w (value.Int z) name h = (refl, refl)
+local_quick w (value.Str text) name h = (refl, refl)
+local_quick w (value.Obj n) name h = (rw h refl, refl)
+
+set_value : (v : Value) (other : OpEnd) → is_set v ≡ true → set_or other v ≡ opend.Give v
+set_value value.Unset other h = absurd (cc)
+set_value value.None other h = refl
+set_value (value.Bool b) other h = refl
+set_value (value.Int z) other h = refl
+set_value (value.Str text) other h = refl
+set_value (value.Obj n) other h = refl
+
+-- a cell that holds something
+held_by : (o : Option Object) (v : Value) (other : OpEnd) → held_value o ≡ Some v → (is_cell o ≡ true) × (set_or other (content o) ≡ opend.Give v)
+held_by (Some (object.Cell u)) v other h = by u (is_set u) refl h
+  where
+    by : (u : Value) (b : Bool) → is_set u ≡ b → (if b then Some u else None) ≡ Some v → (true ≡ true) × (set_or other u ≡ opend.Give v)
+    by u true s h = (refl, set_value u other s ∙ ap opend.Give (some_is u v h))
+    by u false s h = absurd (cc)
+held_by other v e h = absurd (cc)
+
+pub cell_quick : (w : World) (cell : Value) (name : List ℕ) (v : Value) → held_value (object_of w.heap cell) ≡ Some v → IsQuick op.CellGet w (cell ∷ value.Str name ∷ []) v
+cell_quick w cell name v h = let g = held_by (object_of w.heap cell) v (no_local name) h in (rw (g.0) refl, ended w (cellget_row w.heap cell name) v g.1)
+
+pub free_quick : (w : World) (cell : Value) (name : List ℕ) (v : Value) → held_value (object_of w.heap cell) ≡ Some v → IsQuick op.FreeGet w (cell ∷ value.Str name ∷ []) v
+free_quick w cell name v h = let g = held_by (object_of w.heap cell) v (no_free name) h in (rw (g.0) refl, ended w (freeget_row w.heap cell name) v g.1)
+
+pub cell_leads : (w : World) (n : ℕ) (v : Value) (h : List Object) → is_cell (slice_get w.heap n) ≡ true → is_in (length w.heap) v ≡ true → h ≡ put_at w.heap n (Hold v) (slice_get w.heap n)
+    → Leads op.CellSet w (value.Obj n ∷ v ∷ []) value.None (record w { heap = h })
+cell_leads w n v h c i e = (rw (c, i) refl, refl, ap (λ l. record w { heap = l }) e)
+
+-- ---- other worlds
+
+leads_by : (o : Op) (w w' : World) (args : List Value) (v : Value) → fits o w args ≡ true → row o w args ≡ given w'.heap v → w' ≡ record w { heap = w'.heap } → Leads o w args v w'
+leads_by o w w' args v f r e = (f, ap (λ a. a.end) r, e ∙ sym (ap (λ a. after w a) r))
+
+pub next_leads : (w w' : World) (a : Value) (r : Option Value) → is_in (length w.heap) a ≡ true → IfSome r (λ v. row op.Next w (a ∷ []) ≡ given w'.heap v) → IfSome r (λ v. w' ≡ record w { heap = w'.heap }) → IfSome r (λ v. Leads op.Next w (a ∷ []) v w')
+next_leads w w' a None h e g = tt
+next_leads w w' a (Some v) h e g = leads_by op.Next w w' (a ∷ []) v (rw h refl) e g
+
+pub set_index_leads : (w w' : World) (a i v : Value) (r : Bool) → is_in (length w.heap) a ≡ true → is_in (length w.heap) i ≡ true → is_in (length w.heap) v ≡ true → (r ≡ true → row op.SetIndex w (a ∷ i ∷ v ∷ []) ≡ given w'.heap value.None) → w' ≡ record w { heap = w'.heap }
+    → r ≡ true → Leads op.SetIndex w (a ∷ i ∷ v ∷ []) value.None w'
+set_index_leads w w' a i v r h k l e g is = leads_by op.SetIndex w w' (a ∷ i ∷ v ∷ []) value.None (rw (h, k, l) refl) (e is) g
 
 -- ---- names
 

@@ -1,10 +1,11 @@
 -- Operations that are done at once, by values that lie elsewhere, without a list of arguments and without memory.
-use Rattle.std.specs.Prelude.{◌≡◌, ℤ, pos, List, [], ◌∷◌, Option, Some, None, Bool, true, false, not, slice_get}
+use Rattle.std.specs.Prelude.{◌≡◌, ℤ, pos, List, [], ◌∷◌, Option, Some, None, Bool, true, false, not, slice_get, if◌then◌else◌}
 use Rattle.std.specs.Ordering.{int_eq}
 use Rattle.nu_value.specs.declared.object.Object.{Object}
 use Rattle.nu_value.specs.declared.object.Object.TheVariants as object
 use Rattle.nu_value.specs.declared.value.Value.{Value}
 use Rattle.nu_value.specs.declared.value.Value.TheVariants as value
+use Rattle.nu_value.specs.Same.{is_set}
 use Rattle.op_forms.specs.declared.op.Op.{Op}
 use Rattle.op_forms.specs.declared.op.Op.TheVariants as op
 use Rattle.op_forms.specs.declared.world.World.{World}
@@ -69,3 +70,8 @@ plain_truth h (value.Bool b) = Some b
 plain_truth h (value.Int z) = Some (not (int_eq z (pos 0)))
 plain_truth h (value.Str text) = Some (is_filled text)
 plain_truth h (value.Obj n) = object_truth (slice_get h n)
+
+-- what a cell holds, if it holds something
+abbrev pub held_value : Option Object → Option Value
+held_value (Some (object.Cell v)) = if is_set v then Some v else None
+held_value other = None

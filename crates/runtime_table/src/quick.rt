@@ -218,6 +218,19 @@ fn indexed(world: &World, a: &Value, b: &Value) -> Option<Value>
     }
 }
 
+// Whether two texts are the same.
+#[inline]
+#[tactic(auto, using(crate::proofs::AtOnce::eq_texts, crate::proofs::AtOnce::ne_texts))]
+fn equal(_world: &World, a: &Value, b: &Value) -> Option<bool>
+    ensures same { IfSome result (λ t. spec.IsQuick op.Eq _world.now (a.now ∷ b.now ∷ []) (value.Bool t)) }
+    ensures other { IfSome result (λ t. spec.IsQuick op.Ne _world.now (a.now ∷ b.now ∷ []) (value.Bool (not t))) }
+{
+    match (a, b) {
+        (Value::Str(x), Value::Str(y)) => Some(x.is_same(y)),
+        _ => None,
+    }
+}
+
 // What an operation on two values gives that aren't both integers.
 #[inline]
 fn of_others(world: &World, op: Op, a: &Value, b: &Value) -> Option<Value>
@@ -225,6 +238,14 @@ fn of_others(world: &World, op: Op, a: &Value, b: &Value) -> Option<Value>
 {
     match op {
         Op::Index => indexed(world, a, b),
+        Op::Eq => match equal(world, a, b) {
+            Some(same) => Some(Value::Bool(same)),
+            None => None,
+        },
+        Op::Ne => match equal(world, a, b) {
+            Some(same) => Some(Value::Bool(!same)),
+            None => None,
+        },
         Op::Is => match identical(world, a, b) {
             Some(same) => Some(Value::Bool(same)),
             None => None,
@@ -237,8 +258,8 @@ fn of_others(world: &World, op: Op, a: &Value, b: &Value) -> Option<Value>
     }
 }
 
-/// What an operation on two values gives: arithmetic and comparisons of integers, `is` and `is not`, and the item of a list, a
-/// tuple or a dict.
+/// What an operation on two values gives: arithmetic and comparisons of integers, equality of texts, `is` and `is not`, and the
+/// item of a list, a tuple or a dict.
 #[inline]
 pub fn quick_two(world: &World, op: Op, a: &Value, b: &Value) -> Option<Value>
     ensures { IfSome result (λ v. spec.IsQuick op world.now (a.now ∷ b.now ∷ []) v) }

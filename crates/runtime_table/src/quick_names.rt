@@ -1,9 +1,10 @@
 //! Names of the module by where they were found before, without memory.
 
-ghost use Rattle.std.specs.Prelude.{◌≡◌, ◌<◌, ◌∷◌, [], IfSome, None, length, slice_get, option_map};
+ghost use Rattle.std.specs.Prelude.{◌≡◌, ◌<◌, ◌∷◌, [], IfSome, None, length, slice_get, option_copied, option_map};
 ghost use Rattle.std.specs.Option.{option_or};
 ghost use Rattle.nu_value.specs.declared.value.Value.TheVariants as value;
 ghost use Rattle.nu_value.specs.Names.{place_of, value_at, with_name};
+ghost use Rattle.nu_value.specs.Same.{object_of};
 ghost use Rattle.op_forms.specs.declared.op.Op.TheVariants as op;
 ghost use Rattle.op_forms.specs.Answers.{names_of};
 ghost use Rattle.op_forms.specs.Doing.{Bind, changed_by, put_at};
@@ -12,6 +13,7 @@ ghost use Rattle.runtime_table.specs.Quick as spec;
 use crate::arguments::is_in;
 use nu_value::{Heap, Names, Object, Value};
 use op_forms::World;
+use rt_call::object_of;
 
 // A name that is there: its place, which is found at once where it is the guess, and its value.
 #[inline]
@@ -110,4 +112,52 @@ pub fn quick_set_global(world: &mut World, name: &str, a: &Value, near: usize) -
     };
     let module = world.module;
     rebind_in(&mut world.heap, module, name, near, copy)
+}
+
+/// The value of a local variable that has one.
+#[inline]
+#[tactic(auto, using(crate::proofs::AtOnce::local_quick))]
+pub fn quick_local(world: &World, a: &Value, _name: &str) -> Option<Value>
+    ensures { IfSome result (λ v. spec.IsQuick op.Local world.now (a.now ∷ value.Str _name.now ∷ []) v) }
+{
+    if !is_in(world.heap.len(), a) {
+        return None;
+    }
+    match a.copy() {
+        Ok(copy) => Some(copy),
+        Err(_) => None,
+    }
+}
+
+#[inline]
+fn held<'a>(heap: &'a Heap, cell: &Value) -> Option<&'a Value>
+    ensures { option_copied result ≡ spec.held_value (object_of heap.now cell.now) }
+{
+    match object_of(heap, cell) {
+        Some(Object::Cell(content)) if content.is_set() => Some(content),
+        _ => None,
+    }
+}
+
+/// What a cell of the function, or of one outside, holds, if it holds something.
+#[inline]
+#[tactic(auto, using(crate::proofs::AtOnce::cell_quick, crate::proofs::AtOnce::free_quick))]
+pub fn quick_cell<'a>(world: &'a World, cell: &Value, _name: &str) -> Option<&'a Value>
+    ensures own { IfSome result (λ v. spec.IsQuick op.CellGet world.now (cell.now ∷ value.Str _name.now ∷ []) v.now) }
+    ensures free { IfSome result (λ v. spec.IsQuick op.FreeGet world.now (cell.now ∷ value.Str _name.now ∷ []) v.now) }
+{
+    held(&world.heap, cell)
+}
+
+/// The attribute of an instance, where it's a field, or else a plain value of its class.
+#[inline]
+#[tactic(auto, using(crate::proofs::AtOnce::attr_quick))]
+pub fn quick_attr(world: &World, a: &Value, name: &str) -> Option<Value>
+    ensures { IfSome result (λ v. spec.IsQuick op.Attr world.now (a.now ∷ value.Str name.now ∷ []) v) }
+{
+    if is_in(world.heap.len(), a) {
+        rt_class::quick_attr(world, a, name)
+    } else {
+        None
+    }
 }
