@@ -7,6 +7,7 @@ use Rattle.std.specs.Str.{bytes_eq}
 use Rattle.std.proofs.lemmas.List.{set-get_or}
 use Rattle.std.proofs.lemmas.Option.{get_or_from_slice_get, slice_get_within}
 use Rattle.std.proofs.lemmas.Slice.Eq.{bytes_eq-Decides}
+use Rattle.nu_text.specs.Names.{is_among, built_in_names}
 use Rattle.nu_value.specs.declared.object.Object.{Object}
 use Rattle.nu_value.specs.declared.object.Object.TheVariants as object
 use Rattle.nu_value.specs.declared.value.Value.{Value}
@@ -20,7 +21,7 @@ use Rattle.op_forms.specs.declared.op.Op.{Op}
 use Rattle.op_forms.specs.declared.op.Op.TheVariants as op
 use Rattle.op_forms.specs.declared.world.World.{World}
 use Rattle.op_forms.specs.declared.signature.ArgumentKind.TheVariants as kind
-use Rattle.op_forms.specs.Answers.{Answer, after, names_of}
+use Rattle.op_forms.specs.Answers.{Answer, after, names_of, unbuilt}
 use Rattle.op_forms.specs.Doing.{Bind, Hold, answer, ends, given, put_at}
 use Rattle.op_forms.specs.Fits.{fits, is_cell, is_in}
 use Rattle.op_forms.specs.Signature.{arguments, further}
@@ -29,7 +30,7 @@ use Rattle.op_rules.specs.Comparisons.{eq_row, ne_row, give_bool, is_filled, sam
 use Rattle.op_rules.specs.Comparisons as comparisons
 use Rattle.op_rules.specs.Families.{object_family}
 use Rattle.op_rules.specs.IntRows.{int_row}
-use Rattle.op_rules.specs.NameRows.{cellget_row, content, freeget_row, global_row, no_free, no_local, not_defined, set_or, value_or}
+use Rattle.op_rules.specs.NameRows.{cellget_row, content, freeget_row, global_row, native_row, no_free, no_local, not_defined, set_or, value_or}
 use Rattle.op_rules.specs.Table.{row}
 use Rattle.op_rules.specs.Table as table
 use Rattle.runtime_table.specs.Quick.{IsQuick, Leads, held_value, is_number_op, is_sign_op, object_truth, plain_truth}
@@ -145,12 +146,16 @@ pub index_quick : (w : World) (a b : Value) (r : Option Value) → is_in (length
 index_quick w a b None h k e = tt
 index_quick w a b (Some v) h k e = (two_fit op.Index w a b refl refl h k, e)
 
+text_by : (f : Bool → Bool) (b : Bool) → same_end f (if b then same.Equal else same.Different) ≡ give_bool (f b)
+text_by f true = refl
+text_by f false = refl
+
 -- two texts are equal where they are the same
 pub eq_texts : (w : World) (x y : List ℕ) → IsQuick op.Eq w (value.Str x ∷ value.Str y ∷ []) (value.Bool (bytes_eq x y))
-eq_texts w x y = (refl, ended w (eq_row w.heap (value.Str x) (value.Str y)) (value.Bool (bytes_eq x y)) (same_by (λ t. t) (bytes_eq x y)))
+eq_texts w x y = (refl, ended w (eq_row w.heap (value.Str x) (value.Str y)) (value.Bool (bytes_eq x y)) (text_by (λ t. t) (bytes_eq x y)))
 
 pub ne_texts : (w : World) (x y : List ℕ) → IsQuick op.Ne w (value.Str x ∷ value.Str y ∷ []) (value.Bool (not (bytes_eq x y)))
-ne_texts w x y = (refl, ended w (ne_row w.heap (value.Str x) (value.Str y)) (value.Bool (not (bytes_eq x y))) (same_by not (bytes_eq x y)))
+ne_texts w x y = (refl, ended w (ne_row w.heap (value.Str x) (value.Str y)) (value.Bool (not (bytes_eq x y))) (text_by not (bytes_eq x y)))
 
 -- ---- attributes, locals and cells
 
@@ -217,6 +222,12 @@ pub global_quick : (w : World) (name : List ℕ) (v : Value) → option_or (valu
     → IsQuick op.Global w (value.Str name ∷ []) v
 global_quick w name v h =
     (refl, ended w (global_row w name) v (or_value (value_at (names_of (slice_get w.heap w.«module»)) name) (value_at (names_of (slice_get w.heap w.builtins)) name) (not_defined name) v h))
+
+native_row_of : (w : World) (name : List ℕ) (v : Value) → value_at (names_of (slice_get w.heap w.builtins)) name ≡ Some v → native_row w name ≡ opend.Give v
+native_row_of w name v h = ap (λ o. value_or o unbuilt) h
+
+pub native_quick : (w : World) (name : List ℕ) (v : Value) → is_among built_in_names name ≡ true → value_at (names_of (slice_get w.heap w.builtins)) name ≡ Some v → IsQuick op.Native w (value.Str name ∷ []) v
+native_quick w name v b h = (rw b refl, ended w (native_row w name) v (native_row_of w name v h))
 
 set_fits : (w : World) (name : List ℕ) (v : Value) → is_in (length w.heap) v ≡ true → fits op.SetGlobal w (value.Str name ∷ v ∷ []) ≡ true
 set_fits w name v h = rw h refl

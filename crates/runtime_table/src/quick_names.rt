@@ -11,6 +11,7 @@ ghost use Rattle.op_forms.specs.Doing.{Bind, changed_by, put_at};
 ghost use Rattle.runtime_table.specs.Quick as spec;
 
 use crate::arguments::is_in;
+use nu_text::is_built_in_name;
 use nu_value::{Heap, Names, Object, Value};
 use op_forms::World;
 use rt_call::object_of;
@@ -55,6 +56,19 @@ pub fn quick_global<'a>(world: &'a World, name: &str, near: usize) -> Option<(us
     ensures { IfSome result (λ p. spec.IsQuick op.Global world.now (value.Str name.now ∷ []) p.1.now) }
 {
     looked_up(world, name, near)
+}
+
+/// The value of a built-in name, and the place where it stands among them. It is found at once where that is the guess.
+#[inline]
+#[tactic(auto, using(crate::proofs::AtOnce::native_quick))]
+pub fn quick_native<'a>(world: &'a World, name: &str, near: usize) -> Option<(usize, &'a Value)>
+    ensures { IfSome result (λ p. spec.IsQuick op.Native world.now (value.Str name.now ∷ []) p.1.now) }
+{
+    if is_built_in_name(name) {
+        in_space(&world.heap, world.builtins, name, near)
+    } else {
+        None
+    }
 }
 
 // A name that is there gets a value.
