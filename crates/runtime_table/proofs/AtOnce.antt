@@ -1,6 +1,6 @@
 -- What is done at once is what the table says.
 use Rattle.std.proofs.Common.{◌≡◌, ℕ, zero, suc, ◌+◌, ◌<◌, List, [], ◌∷◌, Option, Some, None, Bool, true, false, not, refl, sym, ap, ◌∙◌, length, nat_lt, add-one, arith, rules}
-use Rattle.std.specs.Prelude.{ℤ, pos, IfSome, slice_get, slice_set, if◌then◌else◌}
+use Rattle.std.specs.Prelude.{ℤ, pos, IfSome, slice_get, slice_set, if◌then◌else◌, ◌&&◌}
 use Rattle.std.specs.Option.{option_or}
 use Rattle.std.specs.Ordering.{int_eq}
 use Rattle.std.specs.Str.{bytes_eq}
@@ -22,9 +22,10 @@ use Rattle.op_forms.specs.declared.op.Op.TheVariants as op
 use Rattle.op_forms.specs.declared.world.World.{World}
 use Rattle.op_forms.specs.declared.signature.ArgumentKind.TheVariants as kind
 use Rattle.op_forms.specs.Answers.{Answer, after, names_of, unbuilt}
-use Rattle.op_forms.specs.Doing.{Bind, Hold, answer, ends, given, put_at}
+use Rattle.op_forms.specs.Doing.{Bind, Hold, answer, changes, ends, given, nothing, put_at}
 use Rattle.op_forms.specs.Fits.{fits, is_cell, is_in}
 use Rattle.op_forms.specs.Signature.{arguments, further}
+use Rattle.op_rules.specs.Attributes.{may_change, may_name, set_on}
 use Rattle.op_rules.specs.Binding.{bound}
 use Rattle.op_rules.specs.Comparisons.{eq_row, ne_row, give_bool, is_filled, same_end}
 use Rattle.op_rules.specs.Comparisons as comparisons
@@ -33,7 +34,7 @@ use Rattle.op_rules.specs.IntRows.{int_row}
 use Rattle.op_rules.specs.NameRows.{cellget_row, content, freeget_row, global_row, native_row, no_free, no_local, not_defined, set_or, value_or}
 use Rattle.op_rules.specs.Table.{row}
 use Rattle.op_rules.specs.Table as table
-use Rattle.runtime_table.specs.Quick.{IsQuick, Leads, held_value, is_number_op, is_sign_op, object_truth, plain_truth}
+use Rattle.runtime_table.specs.Quick.{IsQuick, Leads, held_value, is_instance, is_number_op, is_sign_op, object_truth, plain_truth}
 
 -- an operation that does nothing but give a value
 ended : (w : World) (e : OpEnd) (v : Value) → e ≡ opend.Give v → bound w (answer w (ends e)) ≡ given w.heap v
@@ -235,6 +236,24 @@ set_fits w name v h = rw h refl
 pub set_leads : (w : World) (name : List ℕ) (v : Value) (h : List Object) → is_in (length w.heap) v ≡ true → h ≡ put_at w.heap w.«module» (Bind name v) (slice_get w.heap w.«module»)
     → Leads op.SetGlobal w (value.Str name ∷ v ∷ []) value.None (record w { heap = h })
 set_leads w name v h is e = (set_fits w name v is, refl, ap (λ l. record w { heap = l }) e)
+
+set_on_by : (w : World) (n : ℕ) (name : List ℕ) (v : Value) (o : Option Object) → is_instance o ≡ true → may_name name ≡ true → (if may_name name && may_change w.heap name o then changes n (Bind name v) else nothing) ≡ changes n (Bind name v)
+set_on_by w n name v (Some (object.Instance class fields)) i m = rw m refl
+set_on_by w n name v other i m = absurd (cc)
+
+instance_fits : (w : World) (n : ℕ) (name : List ℕ) (v : Value) (o : Option Object) → slice_get w.heap n ≡ o → is_instance o ≡ true → is_in (length w.heap) v ≡ true → fits op.SetAttr w (value.Obj n ∷ value.Str name ∷ v ∷ []) ≡ true
+instance_fits w n name v None s i h = absurd (cc)
+instance_fits w n name v (Some o) s i h = rw (there w.heap n o s, h) refl
+
+-- a field of an instance gets a value
+pub set_attr_leads : (w : World) (n : ℕ) (name : List ℕ) (v : Value) (h : List Object) → is_instance (slice_get w.heap n) ≡ true → may_name name ≡ true → is_in (length w.heap) v ≡ true → h ≡ put_at w.heap n (Bind name v) (slice_get w.heap n)
+    → Leads op.SetAttr w (value.Obj n ∷ value.Str name ∷ v ∷ []) value.None (record w { heap = h })
+set_attr_leads w n name v h i m k e =
+    let d : set_on w.heap n name v ≡ changes n (Bind name v) = set_on_by w n name v (slice_get w.heap n) i m in (
+      instance_fits w n name v (slice_get w.heap n) refl i k,
+      ap (λ x. (bound w (answer w x)).end) d,
+      ap (λ l. record w { heap = l }) e ∙ sym (ap (λ x. after w (bound w (answer w x))) d),
+    )
 
 -- the name that stands at its place
 stands_there : (ps : NameList) (name : List ℕ) (p : List ℕ × Value) → slice_get ps (place_of ps name) ≡ Some p → p.0 ≡ name

@@ -75,3 +75,7 @@ plain_truth h (value.Obj n) = object_truth (slice_get h n)
 abbrev pub held_value : Option Object → Option Value
 held_value (Some (object.Cell v)) = if is_set v then Some v else None
 held_value other = None
+
+abbrev pub is_instance : Option Object → Bool
+is_instance (Some (object.Instance class fields)) = true
+is_instance other = false

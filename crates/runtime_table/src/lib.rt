@@ -19,6 +19,7 @@ pub use op_forms::World;
 pub use quick::{quick_one, quick_two};
 pub use quick_changes::{quick_next, quick_set_cell, quick_set_index};
 pub use quick_names::{
-    quick_attr, quick_cell, quick_global, quick_local, quick_native, quick_set_global,
+    quick_attr, quick_cell, quick_global, quick_local, quick_native, quick_set_attr,
+    quick_set_global,
 };
 pub use table::apply;

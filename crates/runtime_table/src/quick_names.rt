@@ -8,12 +8,14 @@ ghost use Rattle.nu_value.specs.Same.{object_of};
 ghost use Rattle.op_forms.specs.declared.op.Op.TheVariants as op;
 ghost use Rattle.op_forms.specs.Answers.{names_of};
 ghost use Rattle.op_forms.specs.Doing.{Bind, changed_by, put_at};
+ghost use Rattle.op_rules.specs.Attributes.{may_name};
 ghost use Rattle.runtime_table.specs.Quick as spec;
 
 use crate::arguments::is_in;
 use nu_text::is_built_in_name;
 use nu_value::{Heap, Names, Object, Value};
 use op_forms::World;
+use op_rules::is_unwritten;
 use rt_call::object_of;
 
 // A name that is there: its place, which is found at once where it is the guess, and its value.
@@ -94,6 +96,7 @@ fn rebind(object: &mut Object, name: &str, near: usize, a: Value) -> Option<usiz
 {
     match object {
         Object::Space(names) => set_near(names, name, near, a),
+        Object::Instance { fields, .. } => set_near(fields, name, near, a),
         _ => None,
     }
 }
@@ -126,6 +129,61 @@ pub fn quick_set_global(world: &mut World, name: &str, a: &Value, near: usize) -
     };
     let module = world.module;
     rebind_in(&mut world.heap, module, name, near, copy)
+}
+
+fn is_instance(heap: &Heap, number: u64) -> bool
+    ensures { result ≡ spec.is_instance (slice_get heap.now number) }
+{
+    match heap.get(number) {
+        Some(Object::Instance { .. }) => true,
+        _ => false,
+    }
+}
+
+fn may_name(name: &str) -> bool
+    ensures { result ≡ may_name name.now }
+{
+    !is_unwritten(name) && name != "__class__"
+}
+
+#[inline]
+#[tactic(auto, using(crate::proofs::AtOnce::set_attr_leads))]
+fn set_field(world: &mut World, number: u64, name: &str, a: &Value, near: usize) -> Option<usize>
+    ensures set { IfSome result (λ _. spec.Leads op.SetAttr world.old (value.Obj number ∷ value.Str name.now ∷ a.now ∷ []) value.None world.new) }
+    ensures same { result ≡ None → world.new ≡ world.old }
+{
+    if !is_instance(&world.heap, number) {
+        return None;
+    }
+    if !may_name(name) {
+        return None;
+    }
+    if !is_in(world.heap.len(), a) {
+        return None;
+    }
+    let Ok(copy) = a.copy() else {
+        return None;
+    };
+    rebind_in(&mut world.heap, number, name, near, copy)
+}
+
+/// A field of an instance that is there gets a value; the place where it stands is answered, and found at once where it is the
+/// guess. Where nothing is answered, nothing has changed.
+#[inline]
+pub fn quick_set_attr(
+    world: &mut World,
+    of: &Value,
+    name: &str,
+    a: &Value,
+    near: usize,
+) -> Option<usize>
+    ensures set { IfSome result (λ _. spec.Leads op.SetAttr world.old (of.now ∷ value.Str name.now ∷ a.now ∷ []) value.None world.new) }
+    ensures same { result ≡ None → world.new ≡ world.old }
+{
+    match of {
+        Value::Obj(number) => set_field(world, *number, name, a, near),
+        _ => None,
+    }
 }
 
 /// The value of a local variable that has one.
