@@ -1,0 +1,4 @@
+pub mod Joined
+pub mod Linked
+pub mod Filled
+pub mod Handed
