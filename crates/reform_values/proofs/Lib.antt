@@ -2,3 +2,4 @@ pub mod Joined
 pub mod Linked
 pub mod Filled
 pub mod Handed
+pub mod Yielded

@@ -91,8 +91,8 @@ fn does(alloc: Global, to: u64, line: u32, op: Op, values: Vec<Operand>) -> Resu
     Ok(Node::Do { to, line, op, args })
 }
 
-// The blocks of parts one after another, and their values.
-fn gathered(alloc: Global, parts: Vec<Part>) -> Result<(Block, Vec<Operand>), AllocError>
+/// The blocks of parts one after another, and their values.
+pub fn gathered(alloc: Global, parts: Vec<Part>) -> Result<(Block, Vec<Operand>), AllocError>
     ensures { IfOk result (λ r. (block r.0 ≡ joined (map carrier parts.items) tree.Stop) × (r.1.items ≡ map (λ p. p.value) (map carrier parts.items))) }
 {
     let mut whole = Items::new(alloc);

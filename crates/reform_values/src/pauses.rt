@@ -1,6 +1,8 @@
 //! Pauses of generators.
 
-ghost use Rattle.std.specs.Prelude.{◌≡◌, ◌+◌, ◌<◌, ◌^◌, [], ◌∷◌, IfOk};
+ghost use Rattle.std.specs.Prelude.{◌≡◌, ◌+◌, ◌<◌, ◌^◌, [], ◌∷◌, false, IfOk};
+ghost use Rattle.op_forms.specs.declared.op.Op.TheVariants as op_named;
+ghost use Rattle.code_forms.specs.declared.operand.Operand.TheVariants as operand;
 ghost use Rattle.node_tree.specs.Blocks as tree;
 ghost use Rattle.node_tree.specs.Tree.{form, block};
 ghost use Rattle.carries_control.specs.Raises.{stopped_block};
@@ -9,7 +11,7 @@ ghost use Rattle.carries_definitions.specs.Delegated as delegated;
 ghost use Rattle.carries_definitions.specs.Told as told_blocks;
 ghost use Rattle.carried_codes.specs.Expressions as expressions;
 ghost use Rattle.reform_blocks.specs.Parts.{carrier};
-ghost use Rattle.reform_values.specs.Delegating.{delegating_block};
+ghost use Rattle.reform_values.specs.Delegating.{turn_block, never_block, turns_block};
 ghost use Rattle.reform_values.specs.Values.{valued_of};
 
 use crate::made::{Valued, left_in, on_two};
@@ -44,8 +46,8 @@ pub fn yield_value(part: Part, line: u32, next: u64) -> Result<Valued, AllocErro
     Ok(left_in(whole, next, next + 1))
 }
 
-// An exception of a body goes to a temporary, and a flag tells that there was one.
-fn attempt(alloc: Global, to: u64, raised: u64, body: Node) -> Result<Node, AllocError>
+/// An exception of a statement goes to a temporary, and a flag tells that there was one.
+pub fn attempt(alloc: Global, to: u64, raised: u64, body: Node) -> Result<Node, AllocError>
     ensures { IfOk result (λ n. form n ≡ loop_blocks.attempt to raised (tree.alone (form body))) }
 {
     let body = single(alloc, body)?;
@@ -53,8 +55,8 @@ fn attempt(alloc: Global, to: u64, raised: u64, body: Node) -> Result<Node, Allo
     Ok(catches(to, body, told))
 }
 
-// What follows an exception that is a StopIteration; any other is raised again.
-fn stopped(
+/// What follows an exception that is a StopIteration; any other is raised again.
+pub fn stopped(
     alloc: Global,
     exception: u64,
     over: Block,
@@ -261,9 +263,10 @@ fn thrown(alloc: Global, line: u32, next: u64) -> Result<Block, AllocError>
 }
 
 // A turn: what is carried is yielded, and then one of two blocks follows what is sent, or thrown.
+#[tactic(auto, unfolding(crate::specs::Delegating::turn_block))]
 fn turn(alloc: Global, line: u32, next: u64) -> Result<Block, AllocError>
     requires { next + 13 < 2 ^ 64 }
-    ensures { IfOk result (λ b. block b ≡ delegated.delegate_turn_block line next (told_blocks.sent_block line next) (told_blocks.thrown_block line next)) }
+    ensures { IfOk result (λ b. block b ≡ turn_block line next) }
 {
     let sent = sent(alloc, line, next)?;
     let thrown = thrown(alloc, line, next)?;
@@ -289,30 +292,53 @@ fn outcome(alloc: Global, exception: u64, line: u32, to: u64) -> Result<Node, Al
     named_operation(alloc, to, line, Op::Attr, Operand::Temp(exception), "value")
 }
 
+// There is no first value.
+#[tactic(auto, unfolding(crate::specs::Delegating::never_block))]
+fn never(alloc: Global, line: u32, next: u64) -> Result<Block, AllocError>
+    requires { next + 13 < 2 ^ 64 }
+    ensures { IfOk result (λ b. block b ≡ never_block line next) }
+{
+    let value = outcome(alloc, next + 3, line, next + 7)?;
+    let value = single(alloc, value)?;
+    let whole = stopped(alloc, next + 3, value, line, next + 5)?;
+    Ok(whole)
+}
+
+// The turns, and the value behind them.
+#[tactic(auto, unfolding(crate::specs::Delegating::turns_block))]
+fn turns(alloc: Global, line: u32, next: u64) -> Result<Block, AllocError>
+    requires { next + 13 < 2 ^ 64 }
+    ensures { IfOk result (λ b. block b ≡ turns_block line next) }
+{
+    let value = outcome(alloc, next + 1, line, next + 7)?;
+    let turn = turn(alloc, line, next)?;
+    let whole = single(alloc, loops(turn))?;
+    let whole = followed(whole, value)?;
+    Ok(whole)
+}
+
+// The first value of the iterator.
+fn first_value(alloc: Global, line: u32, next: u64) -> Result<Node, AllocError>
+    requires { next + 13 < 2 ^ 64 }
+    ensures { IfOk result (λ n. form n ≡ loop_blocks.attempt (next + 3) (next + 2) (tree.alone (tree.Do (next + 1) line op_named.Next (tree.of_temp next ∷ [])))) }
+{
+    let asked = operation(alloc, next + 1, line, Op::Next, Operand::Temp(next))?;
+    let tried = attempt(alloc, next + 3, next + 2, asked)?;
+    Ok(tried)
+}
+
 // The first value of the iterator is asked for, and then the turns begin, or there is none.
 fn delegating(alloc: Global, line: u32, next: u64) -> Result<Block, AllocError>
     requires { next + 13 < 2 ^ 64 }
-    ensures { IfOk result (λ b. block b ≡ delegating_block line next) }
+    ensures { IfOk result (λ b. block b ≡ tree.Follow (tree.flag (next + 2) false) (tree.Follow (loop_blocks.attempt (next + 3) (next + 2) (tree.alone (tree.Do (next + 1) line op_named.Next (tree.of_temp next ∷ [])))) (tree.alone (tree.If (operand.Temp (next + 2)) (never_block line next) (turns_block line next))))) }
 {
-    let tried = attempt(
-        alloc,
-        next + 3,
-        next + 2,
-        Node::Do {
-            to: next + 1,
-            line,
-            op: Op::Next,
-            args: of_temp(alloc, next)?,
-        },
-    )?;
-    let none = single(alloc, outcome(alloc, next + 3, line, next + 7)?)?;
-    let none = stopped(alloc, next + 3, none, line, next + 5)?;
-    let turn = turn(alloc, line, next)?;
-    let some = single(alloc, loops(turn))?;
-    let some = followed(some, outcome(alloc, next + 1, line, next + 7)?)?;
+    let tried = first_value(alloc, line, next)?;
+    let none = never(alloc, line, next)?;
+    let some = turns(alloc, line, next)?;
     let whole = single(alloc, flag(next + 2, false))?;
     let whole = followed(whole, tried)?;
-    followed(whole, branches(Operand::Temp(next + 2), none, some))
+    let whole = followed(whole, branches(Operand::Temp(next + 2), none, some))?;
+    Ok(whole)
 }
 
 /// A `yield from` (reference, section 6.2.9).
@@ -320,7 +346,6 @@ fn delegating(alloc: Global, line: u32, next: u64) -> Result<Block, AllocError>
 /// # Errors
 ///
 /// Want of memory alone.
-#[tactic(auto, unfolding(carried_codes::specs::Expressions::delegate))]
 pub fn delegate(alloc: Global, part: Part, line: u32, next: u64) -> Result<Valued, AllocError>
     requires { next + 13 < 2 ^ 64 }
     ensures { IfOk result (λ v. valued_of v ≡ expressions.delegate line (carrier part) next) }

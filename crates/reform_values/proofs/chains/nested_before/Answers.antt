@@ -7,5 +7,5 @@ loop-step-init c = first_nested c.args.line c.args.next c.args.blocks.items c.ar
 
 pub loop-step-preserved : goal.loop-step-preserved
 loop-step-preserved c =
-    next_nested c.args.line c.args.next c.loop-step.left.items c.pop.new.self.items c.in-Some.step c.loop-step.rest c.in_ok-rest.rest c.in-Some.ensures c.in_ok-rest.ensures
+    next_nested c.args.line c.args.next c.loop-step.left.items c.pop.new.self.items c.in-Some.step c.loop-step.rest c.in_ok-rest.rest c.in-Some.ensures.items c.in_ok-rest.ensures
     ∙ c.loop-step.invariant
