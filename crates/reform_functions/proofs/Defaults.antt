@@ -74,10 +74,16 @@ length_last (y ∷ xs) x = let e : length (xs ++ x ∷ []) ≡ length xs + 1 = l
 pub next_place : {X : Type 0} (from next behind : ℕ) (xs : List X) (x : X) → next ≡ from + length xs → behind ≡ next + 1 → behind ≡ from + length (xs ++ x ∷ [])
 next_place from next behind xs x en eb = let e = length_last xs x in omega (arith, e, en, eb)
 
+-- what stands behind the values of defaults
+abbrev form_block : ℕ → ℕ → ℕ → ℕ → List ℕ → List Argument → tree.Block → tree.Block
+form_block to line code t cells args puts =
+    tree.Follow (tree.Do t line op.Tuple args) (tree.Follow (tree.Do (t + 1) line op.Dict []) (tree.append puts (alone (expressions.function_form to line code t (t + 1) cells))))
+
 -- a function without defaults
-pub bare_is : (line code t : ℕ) (cells : List ℕ) (whole : tree.Block) → whole ≡ tree.Follow (tree.Do t line op.Tuple []) (tree.Follow (tree.Do (t + 1) line op.Dict []) (alone (expressions.function_form (t + 2) line code t (t + 1) cells))) → whole ≡ expressions.function_block line code [] [] cells t
-bare_is line code t cells whole e =
-    e ∙ ap (λ n. tree.Follow (tree.Do t line op.Tuple []) (tree.Follow (tree.Do (t + 1) line op.Dict []) (alone (expressions.function_form n line code t (t + 1) cells)))) none
+pub bare_is : (line code t : ℕ) (cells : List ℕ) (args : List Argument) (puts whole : tree.Block) → args ≡ [] → puts ≡ tree.Stop → whole ≡ form_block (t + 2) line code t cells args puts → whole ≡ expressions.function_block line code [] [] cells t
+bare_is line code t cells args puts whole ea ep e =
+    e ∙ ap (λ a. form_block (t + 2) line code t cells a puts) ea ∙ ap (form_block (t + 2) line code t cells []) ep
+    ∙ ap (λ n. form_block n line code t cells [] tree.Stop) none
   where
     none : t + 2 ≡ t + 2 + 0
     none = omega arith
@@ -91,10 +97,6 @@ lengths : (ks : List Named) → length ks ≡ length (map named_of ks)
 lengths [] = refl
 lengths (k ∷ ks) = let e : length ks ≡ length (map named_of ks) = lengths ks in omega (arith, e)
 
-abbrev form_block : ℕ → ℕ → ℕ → ℕ → List ℕ → List Argument → tree.Block → tree.Block
-form_block to line code t cells args puts =
-    tree.Follow (tree.Do t line op.Tuple args) (tree.Follow (tree.Do (t + 1) line op.Dict []) (tree.append puts (alone (expressions.function_form to line code t (t + 1) cells))))
-
 pub functions_are : (line code t to end : ℕ) (ps : List Carrier) (ks : List Named) (cells : List ℕ) (first whole puts last both : tree.Block) (os : List Operand) (args : List Argument) → first ≡ joined ps tree.Stop → os ≡ map (λ p. p.value) ps → args ≡ map argument.Value os → whole ≡ tree.append first (joined (map (λ k. k.part) (map named_of ks)) tree.Stop) → puts ≡ expressions.puts line (t + 1) (t + 2) (map named_of ks) → to ≡ t + 2 + length ks → last ≡ form_block to line code t cells args puts → both ≡ tree.append whole last → end ≡ to + 1
     → valued both (operand.Temp to) end ≡ expressions.function line code ps (map named_of ks) cells t
 unfolding expressions.function
@@ -102,12 +104,12 @@ functions_are line code t to end ps ks cells first whole puts last both os args 
     let n : to ≡ t + 2 + length (map named_of ks) = et ∙ ap (λ m. t + 2 + m) (lengths ks) in
     let qs = map (λ k. k.part) (map named_of ks) in
     let l : last ≡ expressions.function_block line code ps (map named_of ks) cells t =
-        el ∙ ap (λ m. form_block m line code t cells args puts) n
-        ∙ ap (λ a. form_block (t + 2 + length (map named_of ks)) line code t cells a puts) (ea ∙ ap (map argument.Value) eo ∙ values_given ps)
-        ∙ ap (form_block (t + 2 + length (map named_of ks)) line code t cells (map (λ p. argument.Value p.value) ps)) ep in
+    el ∙ ap (λ m. form_block m line code t cells args puts) n
+    ∙ ap (λ a. form_block (t + 2 + length (map named_of ks)) line code t cells a puts) (ea ∙ ap (map argument.Value) eo ∙ values_given ps)
+    ∙ ap (form_block (t + 2 + length (map named_of ks)) line code t cells (map (λ p. argument.Value p.value) ps)) ep in
     let b : both ≡ joined ps (joined qs (expressions.function_block line code ps (map named_of ks) cells t)) =
-        eb ∙ ap (λ x. tree.append x last) (ew ∙ ap (λ x. tree.append x (joined qs tree.Stop)) ef) ∙ append_block (joined ps tree.Stop) (joined qs tree.Stop) last
-        ∙ joined_append ps tree.Stop _ ∙ ap (joined ps) (joined_append qs tree.Stop last ∙ ap (joined qs) l) in
+    eb ∙ ap (λ x. tree.append x last) (ew ∙ ap (λ x. tree.append x (joined qs tree.Stop)) ef) ∙ append_block (joined ps tree.Stop) (joined qs tree.Stop) last
+    ∙ joined_append ps tree.Stop _ ∙ ap (joined ps) (joined_append qs tree.Stop last ∙ ap (joined qs) l) in
     ap (λ x. valued x (operand.Temp to) end) b
     ∙ ap (λ m. valued (joined ps (joined qs (expressions.function_block line code ps (map named_of ks) cells t))) (operand.Temp m) end) n
     ∙ ap (valued (joined ps (joined qs (expressions.function_block line code ps (map named_of ks) cells t))) (operand.Temp (t + 2 + length (map named_of ks)))) (ee ∙ ap (λ m. m + 1) n)

@@ -57,7 +57,7 @@ by_last : (v : Valued) (ds : List Decorator) (d : Decorator) → decorated_by_al
 by_last v ds d =
     let t = v.next in let o = v.part.value in
     ap (λ b. valued b (decorated_at t (ds ++ d ∷ []) o) (t + length (ds ++ d ∷ [])))
-      (ap (tree.append v.part.block) (block_last t ds d o) ∙ sym (append_block v.part.block (alone (called t d o)) (decorated_block (t + 1) ds (operand.Temp t))))
+    (ap (tree.append v.part.block) (block_last t ds d o) ∙ sym (append_block v.part.block (alone (called t d o)) (decorated_block (t + 1) ds (operand.Temp t))))
     ∙ ap (λ a. valued (tree.append (tree.append v.part.block (alone (called t d o))) (decorated_block (t + 1) ds (operand.Temp t))) a (t + length (ds ++ d ∷ []))) (at_last t ds d o)
     ∙ ap (valued (tree.append (tree.append v.part.block (alone (called t d o))) (decorated_block (t + 1) ds (operand.Temp t))) (decorated_at (t + 1) ds (operand.Temp t))) (length_more t ds d)
 
@@ -114,5 +114,5 @@ class_is line code name ds base cells t first next whole made ms v ef em en ew e
     let ps = map (λ d. d.part) ds in let o = operand.Temp (t + 5) in let dressed = decorated_block (t + 6) ds o in
     ev ∙ ap (decorated_by_all (valued whole o (t + 6))) em ∙ bare_all (valued whole o (t + 6)) ds
     ∙ ap (λ b. valued b (decorated_at (t + 6) ds o) (t + 6 + length ds))
-      (ap (λ b. tree.append b dressed) ew ∙ append_block next made dressed ∙ behind_joined ps first base.block next (tree.append made dressed) ef en
-      ∙ ap (λ m. joined ps (tree.append base.block (tree.append m dressed))) ed)
+    (ap (λ b. tree.append b dressed) ew ∙ append_block next made dressed ∙ behind_joined ps first base.block next (tree.append made dressed) ef en
+    ∙ ap (λ m. joined ps (tree.append base.block (tree.append m dressed))) ed)

@@ -38,10 +38,7 @@ pub struct Mark {
 }
 
 /// The blocks of decorators one after another, and their values.
-pub fn marked(
-    alloc: Global,
-    decorators: Vec<Decorator>,
-) -> Result<(Block, Vec<Mark>), AllocError>
+pub fn marked(alloc: Global, decorators: Vec<Decorator>) -> Result<(Block, Vec<Mark>), AllocError>
     ensures { IfOk result (λ r. (block r.0 ≡ joined (map (λ d. d.part) (map decorator_of decorators.items)) tree.Stop) × (map mark_of r.1.items ≡ map bare (map decorator_of decorators.items))) }
 {
     let mut whole = Items::new(alloc);
@@ -112,12 +109,7 @@ pub fn decorate(
 ///
 /// Want of memory alone.
 #[tactic(auto, unfolding(carried_codes::specs::Places::assign_name))]
-pub fn defined(
-    alloc: Global,
-    home: Home,
-    defined: Valued,
-    line: u32,
-) -> Result<Made, AllocError>
+pub fn defined(alloc: Global, home: Home, defined: Valued, line: u32) -> Result<Made, AllocError>
     requires { defined.next + 1 < 2 ^ 64 }
     ensures { IfOk result (λ m. made_of m ≡ nodes.defined line (seat_of home) (valued_of defined)) }
 {

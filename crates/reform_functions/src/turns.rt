@@ -128,11 +128,12 @@ pub fn filter(
         value,
     } = test;
     let asked = operation(alloc, next, line, Op::Truth, value)?;
-    let block = followed(first, asked)?;
-    let block = followed(
-        block,
+    let behind = single(alloc, asked)?;
+    let behind = followed(
+        behind,
         branches(Operand::Temp(next), body, Items::new(alloc)),
     )?;
+    let block = append(first, behind)?;
     Ok(Made {
         block,
         next: next + 1,
