@@ -54,6 +54,9 @@ next_nested line t left less b rest more el em =
 pub first_nested : (line t : ℕ) (bs : List (List Node)) (b : List Node) → nested line t (map block bs ++ block b ∷ []) ≡ nested line t (map block (bs ++ b ∷ []))
 first_nested line t bs b = ap (nested line t) (sym (blocks_last bs b))
 
+pub last_nested : (line t : ℕ) (left : List (List Node)) (b : List Node) (whole : tree.Block) → left ≡ [] → nested line t (map block left ++ block b ∷ []) ≡ whole → block b ≡ whole
+last_nested line t left b whole el e = ap (λ l. nested line t (map block l ++ block b ∷ [])) (sym el) ∙ e
+
 -- the links of the law
 links_nested : (line t : ℕ) (a : Operand) (xs : List Linked) → links_block line t a xs ≡ nested line t (step_blocks line t a xs)
 links_nested line t a [] = refl
