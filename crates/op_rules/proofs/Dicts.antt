@@ -205,6 +205,9 @@ module _ (c : Claim) (w : World) (k : Closed c w) where
   or_end : (a b : Value) → EndOf c w (spec.or_pair w.heap a b)
   or_end a b = if_end c w k (is_dict (object_of w.heap a)) _ _ tt (pair_end op.Or a b)
 
+  mod_end : (a b : Value) → EndOf c w (spec.mod_pair w.heap a b)
+  mod_end a b = if_end c w k (is_text a) _ _ tt (pair_end op.Mod a b)
+
   iadd_end : (args : List Value) → Given c op.IAdd args → EndOf c w (of_two (spec.iadd_pair w.heap) args)
   iadd_end [] q = tt
   iadd_end (a ∷ []) q = tt
@@ -223,7 +226,7 @@ module _ (c : Claim) (w : World) (k : Closed c w) where
   operator_end op.Sub args q = two_end _ (pair_end op.Sub) args
   operator_end op.Mul args q = two_end _ (pair_end op.Mul) args
   operator_end op.FloorDiv args q = two_end _ (pair_end op.FloorDiv) args
-  operator_end op.Mod args q = two_end _ (pair_end op.Mod) args
+  operator_end op.Mod args q = two_end _ mod_end args
   operator_end op.Pow args q = two_end _ (pair_end op.Pow) args
   operator_end op.LShift args q = two_end _ (pair_end op.LShift) args
   operator_end op.RShift args q = two_end _ (pair_end op.RShift) args

@@ -9,6 +9,7 @@ use Rattle.nu_value.specs.declared.value.Value.TheVariants as value
 use Rattle.nu_value.specs.Names.{NameList}
 use Rattle.nu_value.specs.Pairs.{PairList, found_at, with_pair}
 use Rattle.nu_value.specs.Same.{object_of}
+use Rattle.nu_value.specs.View.{is_text}
 use Rattle.op_forms.specs.declared.end.After.TheVariants as behind
 use Rattle.op_forms.specs.declared.end.OpEnd.{OpEnd}
 use Rattle.op_forms.specs.declared.end.OpEnd.TheVariants as opend
@@ -149,6 +150,10 @@ plain_pair o h a b = if has_view h a b then unbuilt else no_operands (sign_of o)
 abbrev pub or_pair : List Object → Value → Value → OpEnd
 or_pair h a b = if is_dict (object_of h a) then unbuilt else plain_pair op.Or h a b
 
+-- `%` with a text on the left formats it, which is left out
+abbrev pub mod_pair : List Object → Value → Value → OpEnd
+mod_pair h a b = if is_text a then unbuilt else plain_pair op.Mod h a b
+
 -- a list takes the keys
 abbrev pub iadd_pair : List Object → Value → Value → OpEnd
 iadd_pair h a b = if is_list (object_of h a) then asks h (codes "_nu_addto") (a ∷ b ∷ []) [] behind.Plain else plain_pair op.IAdd h a b
@@ -164,7 +169,7 @@ dict_operator op.Add h args = of_two (plain_pair op.Add h) args
 dict_operator op.Sub h args = of_two (plain_pair op.Sub h) args
 dict_operator op.Mul h args = of_two (plain_pair op.Mul h) args
 dict_operator op.FloorDiv h args = of_two (plain_pair op.FloorDiv h) args
-dict_operator op.Mod h args = of_two (plain_pair op.Mod h) args
+dict_operator op.Mod h args = of_two (mod_pair h) args
 dict_operator op.Pow h args = of_two (plain_pair op.Pow h) args
 dict_operator op.LShift h args = of_two (plain_pair op.LShift h) args
 dict_operator op.RShift h args = of_two (plain_pair op.RShift h) args

@@ -2,3 +2,4 @@ pub mod Loops
 mod Arguments
 mod Members
 mod Places
+mod Putting

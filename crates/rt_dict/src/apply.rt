@@ -62,6 +62,15 @@ fn or(alloc: Global, heap: &Heap, args: &[Value]) -> Result<OpEnd, AllocError>
     }
 }
 
+fn modulo(alloc: Global, heap: &Heap, args: &[Value]) -> Result<OpEnd, AllocError>
+    ensures { IfOk result (λ e. e ≡ of_two (spec.mod_pair heap.now) args.now) }
+{
+    match args {
+        [a, b] => operators::mod_pair(alloc, heap, a, b),
+        _ => Ok(OpEnd::Stop(StopKind::Unbuilt)),
+    }
+}
+
 fn iadd(alloc: Global, heap: &Heap, args: &[Value]) -> Result<OpEnd, AllocError>
     ensures { IfOk result (λ e. e ≡ of_two (spec.iadd_pair heap.now) args.now) }
 {
@@ -97,7 +106,7 @@ fn operator(alloc: Global, op: Op, heap: &Heap, args: &[Value]) -> Result<OpEnd,
         Op::Sub => pair(alloc, Op::Sub, heap, args),
         Op::Mul => pair(alloc, Op::Mul, heap, args),
         Op::FloorDiv => pair(alloc, Op::FloorDiv, heap, args),
-        Op::Mod => pair(alloc, Op::Mod, heap, args),
+        Op::Mod => modulo(alloc, heap, args),
         Op::Pow => pair(alloc, Op::Pow, heap, args),
         Op::LShift => pair(alloc, Op::LShift, heap, args),
         Op::RShift => pair(alloc, Op::RShift, heap, args),

@@ -1,6 +1,6 @@
 //! Changes of a dict.
 
-ghost use Rattle.std.specs.Prelude.{◌≡◌, ◌<◌, IfOk, OnOk, Some, [], length, remove, slice_get};
+ghost use Rattle.std.specs.Prelude.{◌≡◌, ◌<◌, IfOk, OnOk, OnErr, Some, [], length, remove, slice_get};
 ghost use Rattle.op_forms.specs.Doing.{Put, Fit, changed_by, put_at, Did};
 ghost use Rattle.op_rules.specs.DictMethods.{mapped_by};
 ghost use Rattle.op_rules.specs.Dicts as spec;
@@ -13,7 +13,8 @@ use op_rules::no_item_changes;
 use std::alloc::{AllocError, Global};
 
 fn put_in(object: &mut Object, key: Key, given: Value, value: Value) -> Result<(), AllocError>
-    ensures { OnOk result (object.new ≡ changed_by (Put key given value) object.old) }
+    ensures ok { OnOk result (object.new ≡ changed_by (Put key given value) object.old) }
+    ensures err { OnErr result (object.new ≡ object.old) }
 {
     match object {
         Object::Dict(pairs) => pairs.put(key, given, value),
@@ -22,6 +23,7 @@ fn put_in(object: &mut Object, key: Key, given: Value, value: Value) -> Result<(
 }
 
 /// Maps a key of the dict of this number to a value.
+#[tactic(auto, using(crate::proofs::Putting::set_same))]
 pub fn put_into(
     heap: &mut Heap,
     dict: u64,
@@ -29,7 +31,8 @@ pub fn put_into(
     given: Value,
     value: Value,
 ) -> Result<(), AllocError>
-    ensures { OnOk result (heap.new ≡ put_at heap.old dict (Put key given value) (slice_get heap.old dict)) }
+    ensures ok { OnOk result (heap.new ≡ put_at heap.old dict (Put key given value) (slice_get heap.old dict)) }
+    ensures err { OnErr result (heap.new ≡ heap.old) }
 {
     match heap.get_mut(dict) {
         Some(object) => put_in(object, key, given, value),

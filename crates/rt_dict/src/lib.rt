@@ -14,4 +14,4 @@ mod views;
 pub use apply::apply_dict;
 pub use laws::{copies_are_the_same, keys_keep_their_places, members_are_keys};
 pub use methods::call_dict;
-pub use quick::quick_index;
+pub use quick::{quick_index, quick_set_index};

@@ -64,6 +64,16 @@ pub fn or_pair(alloc: Global, heap: &Heap, a: &Value, b: &Value) -> Result<OpEnd
     }
 }
 
+/// `a % b`.
+pub fn mod_pair(alloc: Global, heap: &Heap, a: &Value, b: &Value) -> Result<OpEnd, AllocError>
+    ensures { IfOk result (λ e. e ≡ spec.mod_pair heap.now a.now b.now) }
+{
+    match a {
+        Value::Str(_) => Ok(OpEnd::Stop(StopKind::Unbuilt)),
+        _ => plain_pair(alloc, Op::Mod, heap, a, b),
+    }
+}
+
 /// `a += b`.
 pub fn iadd_pair(alloc: Global, heap: &Heap, a: &Value, b: &Value) -> Result<OpEnd, AllocError>
     ensures { IfOk result (λ e. e ≡ spec.iadd_pair heap.now a.now b.now) }

@@ -67,3 +67,7 @@ next_is h n place size over o f e g = rw (e, g) (over_is h n place size over)
 -- a number that is there
 pub number_there : (count n : ℕ) (start step : ℤ) → n < count → number_within count start step (pos n) ≡ Some (value.Int (number_at start step n))
 number_there count n start step h = let b : nat_lt n count ≡ true = grind (arith, nat_tests) in rw b refl
+
+pub one_back : (o : Option Value) (v : Value) → found.One v ≡ one_of o → o ≡ Some v
+one_back None v h = absurd (cc)
+one_back (Some x) v h = cc

@@ -59,8 +59,9 @@ steps h n place size (found.Two a b) = advanced_making h n size (object.Tuple (a
 steps h n place size found.Changed = ends size_changed
 steps h n place size found.Unbuilt = nothing
 
--- the item at a place of a list or a tuple
+-- the item at a place of a list, a tuple or a range
 abbrev pub item_over : Option Object → ℤ → Option Value
 item_over (Some (object.List items)) place = item_from items place
 item_over (Some (object.Tuple items)) place = item_from items place
+item_over (Some (object.Range start stop step)) place = number_within (range_count start stop step) start step place
 item_over other place = None

@@ -85,3 +85,20 @@ pub fn edit_at(heap: &mut Heap, list: u64, edit: Edit) -> Result<(), AllocError>
         None => Ok(()),
     }
 }
+
+fn set_in(object: &mut Object, place: usize, value: Value)
+    ensures { object.new ≡ changed_by (Fill (spec.edited (edits.Set place value) (spec.items_of object.old))) object.old }
+{
+    if let Object::List(items) = object {
+        set(items, place, value);
+    }
+}
+
+/// Puts a value at a place of the list of this number.
+pub fn set_at(heap: &mut Heap, list: u64, place: usize, value: Value)
+    ensures { heap.new ≡ spec.edited_at heap.old list (edits.Set place value) (slice_get heap.old list) }
+{
+    if let Some(object) = heap.get_mut(list) {
+        set_in(object, place, value);
+    }
+}

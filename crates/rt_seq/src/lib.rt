@@ -19,4 +19,4 @@ mod steps;
 
 pub use apply::{apply_seq, call_seq};
 pub use laws::{slices_are_items, sorting_is_stable, writes_are_read};
-pub use quick::{quick_index, quick_next};
+pub use quick::{quick_index, quick_next, quick_set_index};

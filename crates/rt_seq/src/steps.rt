@@ -86,7 +86,8 @@ fn number_from(start: i128, stop: i128, step: i128, place: u128) -> Found
     }
 }
 
-fn number_within(start: i128, stop: i128, step: i128, place: i128) -> Found
+/// The number at a place of a range.
+pub fn number_within(start: i128, stop: i128, step: i128, place: i128) -> Found
     ensures { result ≡ spec_steps.one_of (spec.number_within (range_count start stop step) start step place) }
 {
     if place < 0 {

@@ -1,2 +1,3 @@
+mod AtOnce
 mod Called
 mod Keywords

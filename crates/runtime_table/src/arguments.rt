@@ -30,7 +30,7 @@ fn is_built_in(value: &Value) -> bool
     }
 }
 
-fn is_in(count: u64, value: &Value) -> bool
+pub fn is_in(count: u64, value: &Value) -> bool
     ensures { result ≡ spec.is_in count value.now }
 {
     match value {

@@ -1,0 +1,5 @@
+pub mod Joined
+pub mod Linked
+pub mod Filled
+pub mod Handed
+pub mod Yielded
