@@ -1,5 +1,5 @@
 -- The table of operations keeps law.
-use Rattle.std.proofs.Common.{◌≡◌, ℕ, zero, suc, ◌<◌, List, [], ◌∷◌, ◌++◌, Option, Some, None, Bool, true, false, refl, sym, ap, subst, ◌∙◌, arith, length, inl, inr, length-append}
+use Rattle.std.proofs.Common.{◌≡◌, ℕ, zero, suc, ◌+◌, ◌<◌, List, [], ◌∷◌, ◌++◌, Option, Some, None, Bool, true, false, refl, sym, ap, subst, ◌∙◌, arith, length, inl, inr, length-append}
 use Rattle.std.specs.Prelude.{◌⊎◌, ℤ, pos, not, ◌&&◌, ◌==◌, if◌then◌else◌, int_lt, nat_lt, nat_le, Result, Ok, Err, codes, slice_get, map}
 use Rattle.std.specs.List.{list_all}
 use Rattle.std.specs.Ordering.{int_eq}
@@ -563,33 +563,33 @@ some_at (x ∷ xs) zero p = (x, refl)
 some_at (x ∷ xs) (suc i) p = some_at xs i (omega arith)
 
 module _ (w : World) (f names code : ℕ) (defaults : List Value) (keywords : NameList) (cells : List Value) (header : Header) where
-  abbrev given : List Value
-  given = value.Obj names ∷ []
+  abbrev block_names : List Value
+  block_names = value.Obj names ∷ []
 
   abbrev by_object : Option Object → Doing
-  by_object o = begun f behind.Plain (length w.heap) (generator_of w.codes o) (bound_object w.codes (length w.heap) given [] o).bound (bound_object w.codes (length w.heap) given [] o).made
+  by_object o = begun f behind.Plain (length w.heap) (generator_of w.codes o) (bound_object w.codes (length w.heap) block_names [] o).bound (bound_object w.codes (length w.heap) block_names [] o).made
 
   abbrev by_header : Option Header → Doing
-  by_header h = begun f behind.Plain (length w.heap) (generator_if code cells h) (bound_code (length w.heap) defaults keywords given [] h).bound (bound_code (length w.heap) defaults keywords given [] h).made
+  by_header h = begun f behind.Plain (length w.heap) (generator_if code cells h) (bound_code (length w.heap) defaults keywords block_names [] h).bound (bound_code (length w.heap) defaults keywords block_names [] h).made
 
   abbrev by_kind : Bool → ParamList → Doing
   by_kind generator ps =
-      let call : Call = call_of ps defaults keywords given [] (length w.heap) in
+      let call : Call = call_of ps defaults keywords block_names [] (length w.heap) in
       begun f behind.Plain (length w.heap) (if generator then Some (code, cells) else None) (binding header.scope call) (made_by (binding header.scope call) call)
 
   abbrev block_end : OpEnd
-  block_end = opend.Ask f given [] behind.Plain
+  block_end = opend.Ask f block_names [] behind.Plain
 
-  block_bound : slice_get w.heap f ≡ Some (object.Function code defaults keywords cells) → slice_get w.codes code ≡ Some header → (name : List ℕ) → header.params ≡ (param.Only, name) ∷ [] → header.generator ≡ false → bind w f given [] behind.Plain ≡ ends block_end
+  block_bound : slice_get w.heap f ≡ Some (object.Function code defaults keywords cells) → slice_get w.codes code ≡ Some header → (name : List ℕ) → header.params ≡ (param.Only, name) ∷ [] → header.generator ≡ false → bind w f block_names [] behind.Plain ≡ ends block_end
   block_bound at there name params kind =
       ap by_object at ∙ ap by_header there ∙ ap (λ g. by_kind g header.params) kind ∙ ap (λ ps. by_kind false ps) params
 
-  block_routed : slice_get w.heap f ≡ Some (object.Function code defaults keywords cells) → doing op.Call w (value.Obj f ∷ given) ≡ ends block_end
+  block_routed : slice_get w.heap f ≡ Some (object.Function code defaults keywords cells) → doing op.Call w (value.Obj f ∷ block_names) ≡ ends block_end
   block_routed at =
-      ap (λ o. routed (object_route w.heap f true given o) op.Call w (value.Obj f ∷ given)) at ∙ ap (λ o. call_object w.heap f given [] o) at
+      ap (λ o. routed (object_route w.heap f true block_names o) op.Call w (value.Obj f ∷ block_names)) at ∙ ap (λ o. call_object w.heap f block_names [] o) at
 
   -- it takes the names, and makes nothing else
-  block_row : slice_get w.heap f ≡ Some (object.Function code defaults keywords cells) → slice_get w.codes code ≡ Some header → IsBlock header → row op.Call w (value.Obj f ∷ given) ≡ keeps w.heap block_end
+  block_row : slice_get w.heap f ≡ Some (object.Function code defaults keywords cells) → slice_get w.codes code ≡ Some header → IsBlock header → row op.Call w (value.Obj f ∷ block_names) ≡ keeps w.heap block_end
   block_row at there is =
       let ps : (name : List ℕ) × (header.params ≡ (param.Only, name) ∷ []) = one_param header.params is.0 in
       ap (λ d. bound w (answer w d)) (block_routed at) ∙ ap (λ d. answer w d) (block_bound at there ps.0 ps.1 is.1)
