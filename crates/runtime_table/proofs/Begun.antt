@@ -44,7 +44,7 @@ did_by h f a g (Stop kind) made e new m p = (p.0, p.1 ∙ ap (λ x. h ++ x) m �
 did_by h f a None (Ready values) made e new m p = (p.0, p.1 ∙ sym (grown_is h made))
 did_by h f a (Some g) (Ready values) made e new m p =
     let o : Object = object.Generator g.0 gen.Fresh values g.1 in (
-      p.0 ∙ ap (λ n. value_after a (value.Obj n)) (length-append h made),
+      p.0 ∙ ap (λ n. value_after a (value.Obj n)) (omega (arith, length-append h made)),
       p.1 ∙ append_assoc h made (o ∷ []) ∙ sym (grown_is h (made ++ o ∷ [])),
     )
 

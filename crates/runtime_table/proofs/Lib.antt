@@ -1,2 +1,4 @@
 mod Called
 mod Keywords
+mod Begun
+mod Placed

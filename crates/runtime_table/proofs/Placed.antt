@@ -83,19 +83,23 @@ drop_whole [] (suc i) e = absurd (omega arith)
 drop_whole (x ∷ xs) zero e = absurd (omega arith)
 drop_whole (x ∷ xs) (suc i) e = drop_whole xs i (omega arith)
 
+first_some : (a b : Option Value) (v : Value) → a ≡ Some v → first_of a b ≡ Some v
+first_some None b v e = absurd (cc)
+first_some (Some x) b v e = e
+
 value_placed : (c : Call) (place index : ℕ) (p : ParamKind × List ℕ) (v : Value) → is_placed p.0 ≡ true → slice_get c.args place ≡ Some v → value_for c place index p ≡ Some v
-value_placed c place index (param.Only, name) v i e = ap (λ x. first_of x _) e
-value_placed c place index (param.Plain, name) v i e = ap (λ x. first_of x _) e
+value_placed c place index (param.Only, name) v i e = first_some (slice_get c.args place) _ v e
+value_placed c place index (param.Plain, name) v i e = first_some (slice_get c.args place) _ v e
 value_placed c place index (param.Star, name) v i e = absurd (cc)
 value_placed c place index (param.Key, name) v i e = absurd (cc)
 value_placed c place index (param.Double, name) v i e = absurd (cc)
 
 values_all : (c : Call) (place index : ℕ) (ps : ParamList) → are_placed ps ≡ true → length ps + place ≡ length c.args → values_from c place index ps ≡ All (drop place c.args)
-values_all c place index [] e n = ap All (sym (drop_whole c.args place n))
+values_all c place index [] e n = ap All (sym (drop_whole c.args place (omega (arith, n))))
 values_all c place index (p ∷ ps) e n =
     let one : is_placed p.0 ≡ true = and_left (is_placed p.0) (are_placed ps) e in
     let d : (x : Value) × (slice_get c.args place ≡ Some x) × (drop place c.args ≡ x ∷ drop (suc place) c.args) = drop_at c.args place (omega (arith, n)) in
-    let next : one_if (is_placed p.0) + place ≡ suc place = ap (λ b. one_if b + place) one in
+    let next : one_if (is_placed p.0) + place ≡ suc place = omega (arith, ap one_if one) in
     let rest : values_from c (one_if (is_placed p.0) + place) (1 + index) ps ≡ All (drop (suc place) c.args) =
     ap (λ k. values_from c k (1 + index) ps) next ∙ values_all c (suc place) (1 + index) ps (and_right (is_placed p.0) (are_placed ps) e) (omega (arith, n)) in
     ap (λ v. with_one p.1 v (values_from c (one_if (is_placed p.0) + place) (1 + index) ps)) (value_placed c place index p d.0 one d.1)

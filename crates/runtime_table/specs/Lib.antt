@@ -1,1 +1,3 @@
 pub mod Keywords
+pub mod Begun
+pub mod Placed

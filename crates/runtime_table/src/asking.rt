@@ -4,16 +4,17 @@ ghost use Rattle.std.specs.Prelude.{◌≡◌, ◌++◌, ◌∷◌, [], IfOk, On
 ghost use Rattle.nu_value.specs.declared.object.GenState.TheVariants as gen;
 ghost use Rattle.nu_value.specs.declared.object.Object.TheVariants as object;
 ghost use Rattle.nu_value.specs.declared.value.Value.TheVariants as value;
+ghost use Rattle.op_forms.specs.Answers as answers;
 ghost use Rattle.op_forms.specs.Doing.{DidIn};
 ghost use Rattle.op_rules.specs.Binding as spec;
 ghost use Rattle.op_rules.specs.Finish as finishing;
+ghost use Rattle.op_rules.specs.TableRules.{table_rules};
 ghost use Rattle.runtime_table.specs.Begun.{Begun};
 
 use crate::finishing::value_after;
-use nu_run::StopKind;
 use nu_value::{Heap, Items, Names, Object, Value};
 use op_forms::{After, OpEnd, World};
-use rt_call::{Bound, bind, copied};
+use rt_call::{Bound, bind as bind_values, copied};
 use std::alloc::{AllocError, Global};
 
 // The code and the cells of the generator that a function makes, if it is a generator's.
@@ -84,11 +85,26 @@ fn ask(
     ensures { IfOk result (λ e. DidIn (spec.bind world.old function args.now names.now after) world.old world.new e) }
 {
     let generator = generator_of(alloc, world, function)?;
-    let bound = bind(alloc, &mut world.heap, &world.codes, function, args, names)?;
+    let bound = bind_values(alloc, &mut world.heap, &world.codes, function, args, names)?;
     begin(alloc, &mut world.heap, function, after, generator, bound)
 }
 
-/// An end of an operation: a function that it asks is bound.
+/// Binds a function that is asked to positional arguments. How it begins: with a value for each parameter; or at once, as a
+/// generator or an error.
+pub fn bind(
+    alloc: Global,
+    world: &mut World,
+    function: u64,
+    args: &[Value],
+    after: After,
+) -> Result<OpEnd, AllocError>
+    ensures end { IfOk result (λ e. e ≡ (table_rules.bind world.old function args.now after).end) }
+    ensures world { OnOk result (world.new ≡ answers.after world.old (table_rules.bind world.old function args.now after)) }
+{
+    ask(alloc, world, function, args, &Names::new(alloc), after)
+}
+
+/// What an end of an operation becomes: a function that it asks is bound.
 pub fn bound(alloc: Global, world: &mut World, end: OpEnd) -> Result<OpEnd, AllocError>
     ensures { IfOk result (λ e. DidIn (spec.bound_end world.old end) world.old world.new e) }
 {
@@ -101,10 +117,11 @@ pub fn bound(alloc: Global, world: &mut World, end: OpEnd) -> Result<OpEnd, Allo
             &names,
             after,
         ),
-        OpEnd::Resume(_, _) | OpEnd::Line => Ok(OpEnd::Stop(StopKind::Unbuilt)),
-        OpEnd::Give(value) => Ok(OpEnd::Give(value)),
-        OpEnd::Raise(number, args) => Ok(OpEnd::Raise(number, args)),
-        OpEnd::Put(text) => Ok(OpEnd::Put(text)),
-        OpEnd::Stop(kind) => Ok(OpEnd::Stop(kind)),
+        OpEnd::Give(_)
+        | OpEnd::Raise(_, _)
+        | OpEnd::Resume(_, _)
+        | OpEnd::Put(_)
+        | OpEnd::Line
+        | OpEnd::Stop(_) => Ok(end),
     }
 }

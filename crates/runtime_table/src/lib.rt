@@ -7,10 +7,13 @@ mod calling;
 mod finishing;
 mod named;
 mod names;
+mod quick;
 mod routes;
 mod table;
 
 pub use arguments::fits;
+pub use asking::bind;
 pub use finishing::finish;
 pub use op_forms::World;
+pub use quick::quick_call;
 pub use table::apply;
