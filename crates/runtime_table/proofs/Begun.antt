@@ -1,5 +1,5 @@
 -- What begins once a function is bound is what asking it does.
-use Rattle.std.proofs.Common.{◌≡◌, ℕ, ◌+◌, List, [], ◌∷◌, ◌++◌, Option, Some, None, refl, sym, ap, ◌∙◌, arith, length, length-append}
+use Rattle.std.proofs.Common.{◌≡◌, ℕ, List, [], ◌∷◌, ◌++◌, Option, Some, None, refl, sym, ap, ◌∙◌, arith, length, length-append}
 use Rattle.std.specs.Prelude.{slice_get}
 use Rattle.std.proofs.lemmas.List.{append-nil, append_assoc}
 use Rattle.nu_value.specs.declared.header.Header.{Header}
@@ -11,12 +11,11 @@ use Rattle.nu_value.specs.declared.value.Value.TheVariants as value
 use Rattle.nu_value.specs.Names.{NameList}
 use Rattle.op_forms.specs.declared.end.After.{After}
 use Rattle.op_forms.specs.declared.end.OpEnd.{OpEnd}
-use Rattle.op_forms.specs.declared.world.World.{World}
-use Rattle.op_forms.specs.Doing.{grown, Did}
+use Rattle.op_forms.specs.Doing.{Did}
 use Rattle.op_forms.proofs.Grown.{grown_is}
 use Rattle.op_rules.specs.declared.binding.Bound.{Bound}
 use Rattle.op_rules.specs.declared.binding.Bound.TheVariants.{Ready, Raise, Stop}
-use Rattle.op_rules.specs.Binding.{Call, Binding, made_by, bound_call, bound_code, bound_object, bound_function, generator_of, begun}
+use Rattle.op_rules.specs.Binding.{Call, made_by, bound_code, bound_object, bound_function, generator_of, begun}
 use Rattle.op_rules.specs.Finish.{value_after}
 use Rattle.runtime_table.specs.Begun.{Begun}
 

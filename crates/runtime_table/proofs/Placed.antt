@@ -1,5 +1,5 @@
 -- Where all parameters have places, and there are as many arguments, these are the values.
-use Rattle.std.proofs.Common.{◌≡◌, ℕ, zero, suc, ◌+◌, ◌<◌, List, [], ◌∷◌, Option, Some, None, Bool, true, false, refl, sym, ap, subst, ◌∙◌, arith, drop, length}
+use Rattle.std.proofs.Common.{◌≡◌, ℕ, zero, suc, ◌+◌, ◌<◌, List, [], ◌∷◌, Option, Some, None, Bool, true, false, refl, sym, ap, ◌∙◌, arith, drop, length}
 use Rattle.std.specs.Prelude.{◌&&◌, not, if◌then◌else◌, nat_eq, nat_lt, slice_get}
 use Rattle.std.proofs.lemmas.Bool.Decides.{nat_tests}
 use Rattle.nu_value.specs.declared.header.Header.{Header}
@@ -19,7 +19,7 @@ use Rattle.op_forms.specs.Answers.{keeps}
 use Rattle.op_forms.specs.Doing.{Doing, ends, answer}
 use Rattle.op_rules.specs.declared.binding.Bound.{Bound}
 use Rattle.op_rules.specs.declared.binding.Bound.TheVariants.{Ready}
-use Rattle.op_rules.specs.Binding.{ParamList, Call, call_of, is_placed, is_star, is_double, one_if, places, has_star, has_double, too_many, value_for, All, with_one, values_from, bound_values, collected, binding, made_by, bound_code, bound_object, generator_if, generator_of, begun, bind, bound}
+use Rattle.op_rules.specs.Binding.{ParamList, Call, call_of, is_placed, is_star, is_double, one_if, places, has_star, has_double, value_for, All, with_one, values_from, collected, binding, made_by, bound_code, bound_object, generator_if, generator_of, begun, bind, bound}
 use Rattle.op_rules.specs.Calls.{call_object}
 use Rattle.op_rules.specs.Routes.{object_route}
 use Rattle.op_rules.specs.Table.{routed, doing, row}

@@ -1,5 +1,5 @@
 -- Functions whose parameters all have places.
-use Rattle.std.specs.Prelude.{ℕ, List, [], ◌∷◌, Bool, true, not, ◌&&◌, nat_eq, length}
+use Rattle.std.specs.Prelude.{ℕ, [], ◌∷◌, Bool, true, not, ◌&&◌, nat_eq, length}
 use Rattle.nu_value.specs.declared.header.Header.{Header}
 use Rattle.op_rules.specs.Binding.{ParamList, is_placed}
 

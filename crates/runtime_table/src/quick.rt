@@ -49,8 +49,7 @@ pub fn quick_call(
         return Ok(None);
     };
     match world.codes.get(*code) {
-        Some(header) if takes_just(header, args.len()) =>
-            Ok(Some((*number, copied(alloc, args)?))),
+        Some(header) if takes_just(header, args.len()) => Ok(Some((*number, copied(alloc, args)?))),
         _ => Ok(None),
     }
 }
