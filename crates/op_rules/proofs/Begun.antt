@@ -35,7 +35,7 @@ use Rattle.op_rules.specs.Binding.{ParamList, Call, is_placed, is_star, is_doubl
 use Rattle.op_rules.specs.Comparisons.{give_bool}
 use Rattle.op_rules.specs.Finish.{truth_after, length_after, is_none, made_after, value_after}
 use Rattle.op_rules.proofs.Plain.{plain_end, truth_after_plain, length_after_plain}
-use Rattle.op_rules.proofs.Usual.{ended, idle, fails, if_end}
+use Rattle.op_rules.proofs.Usual.{ended, fails, if_end}
 
 abbrev IfTrue : Bool → Type 0 → Type 0
 IfTrue true X = X
@@ -443,10 +443,10 @@ module _ (c : Claim) (w : World) (k : Closed c w) where
 
   -- an end of a row, and the binding behind it
   pub bound_right : (e : OpEnd) → EndOf c w e → IsBound (bound_end w e)
-  bound_right (opend.Ask f args names a) p = (idle c w k, tt)
+  bound_right (opend.Ask f args names a) p = bind_right f args names a p.known p.args p.names p.after
   bound_right (opend.Give v) p = (ended c w k (opend.Give v) p, tt)
   bound_right (opend.Raise n args) p = (ended c w k (opend.Raise n args) p, tt)
-  bound_right (opend.Resume g how) p = (idle c w k, tt)
+  bound_right (opend.Resume g how) p = (ended c w k (opend.Resume g how) p, tt)
   bound_right (opend.Put text) p = (ended c w k (opend.Put text) p, tt)
-  bound_right opend.Line p = (idle c w k, tt)
+  bound_right opend.Line p = (ended c w k opend.Line p, tt)
   bound_right (opend.Stop kind) p = (ended c w k (opend.Stop kind) p, tt)

@@ -20,7 +20,7 @@ use Rattle.op_forms.specs.declared.end.OpEnd.{OpEnd}
 use Rattle.op_forms.specs.declared.end.OpEnd.TheVariants as opend
 use Rattle.op_forms.specs.declared.world.World.{World}
 use Rattle.op_forms.specs.Answers.{Answer, after}
-use Rattle.op_forms.specs.Doing.{Doing, nothing, ends, answer}
+use Rattle.op_forms.specs.Doing.{Doing, ends, answer}
 use Rattle.op_rules.specs.declared.binding.Named.{Named}
 use Rattle.op_rules.specs.declared.binding.Named.TheVariants.{AtPlace, ByKey, NoName}
 use Rattle.op_rules.specs.declared.binding.Bound.{Bound}
@@ -277,15 +277,9 @@ begun_with w f a b = begun f a (length w.heap) (generator_of w.codes (slice_get 
 abbrev pub bind : World → ℕ → List Value → NameList → After → Doing
 bind w f args names a = begun_with w f a (bound_function w.heap w.codes f args names)
 
--- no function that an operation asks begins yet
-abbrev pub begin_asked : World → ℕ → List Value → NameList → After → Doing
-begin_asked w f args names a = nothing
-
+-- what an end of an operation becomes: a function that it asks is bound, and every other end stays as it is
 abbrev pub bound_end : World → OpEnd → Doing
-bound_end w (opend.Ask f args names a) = begin_asked w f args names a
--- no generator goes on yet, and no line is read
-bound_end w (opend.Resume g how) = nothing
-bound_end w opend.Line = nothing
+bound_end w (opend.Ask f args names a) = bind w f args names a
 bound_end w other = ends other
 
 -- an end that may ask, and the objects then

@@ -1,12 +1,13 @@
 -- The table of operations keeps law.
-use Rattle.std.proofs.Common.{◌≡◌, ℕ, zero, suc, ◌<◌, List, [], ◌∷◌, ◌++◌, Option, Some, None, Bool, true, false, refl, sym, ap, subst, ◌∙◌, arith, length, inl, inr}
-use Rattle.std.specs.Prelude.{◌⊎◌, ℤ, pos, not, ◌&&◌, ◌==◌, if◌then◌else◌, int_lt, nat_lt, nat_le, Result, Ok, Err, codes, slice_get}
+use Rattle.std.proofs.Common.{◌≡◌, ℕ, zero, suc, ◌+◌, ◌<◌, List, [], ◌∷◌, ◌++◌, Option, Some, None, Bool, true, false, refl, sym, ap, subst, ◌∙◌, arith, length, inl, inr, length-append}
+use Rattle.std.specs.Prelude.{◌⊎◌, ℤ, pos, not, ◌&&◌, ◌==◌, if◌then◌else◌, int_lt, nat_lt, nat_le, Result, Ok, Err, codes, slice_get, map}
 use Rattle.std.specs.List.{list_all}
 use Rattle.std.specs.Ordering.{int_eq}
 use Rattle.nu_run.specs.declared.StopKind.{StopKind}
 use Rattle.nu_run.specs.declared.StopKind.TheVariants as stop
 use Rattle.nu_text.specs.Characters.{characters}
 use Rattle.nu_value.specs.declared.header.Header.{Header}
+use Rattle.nu_value.specs.declared.header.ParamKind.TheVariants as param
 use Rattle.nu_value.specs.declared.object.Object.{Object}
 use Rattle.nu_value.specs.declared.object.Object.TheVariants as object
 use Rattle.nu_value.specs.declared.value.Value.{Value}
@@ -42,8 +43,11 @@ use Rattle.op_forms.specs.Laws.{DoingsKeepSound}
 use Rattle.op_forms.specs.Parts.{PairsOf, OrUnset, PartsOf}
 use Rattle.op_forms.specs.Right.{Claim, Closed, GivenBy, Given, AfterOf, HowOf, EndOf, Uses, Right}
 use Rattle.op_forms.specs.Signature.{arguments}
-use Rattle.op_forms.specs.Sound.{IsIn, AllIn, IsCell, AreCells, AfterIn, HowIn, EndIn, Sound}
+use Rattle.op_forms.specs.Sound.{ASpace as SpaceSort, IsIn, AllIn, IsCell, AreCells, AfterIn, HowIn, EndIn, Sound, IsA}
+use Rattle.op_forms.proofs.Grown.{grown_before}
 use Rattle.op_forms.proofs.Objects.{parts_by}
+use Rattle.op_rules.specs.declared.binding.Bound.{Bound}
+use Rattle.op_rules.specs.declared.binding.Bound.TheVariants.{Ready, Raise, Stop}
 use Rattle.op_rules.specs.declared.family.Family.{Family}
 use Rattle.op_rules.specs.declared.family.Family.TheVariants as family
 use Rattle.op_rules.specs.declared.special.Init.{Init}
@@ -52,7 +56,7 @@ use Rattle.op_rules.specs.declared.special.Special.{Special}
 use Rattle.op_rules.specs.declared.special.Special.TheVariants as special
 use Rattle.op_rules.specs.Access.{other_row}
 use Rattle.op_rules.specs.Asking.{asked, built_in}
-use Rattle.op_rules.specs.Binding.{bound_end, bound}
+use Rattle.op_rules.specs.Binding.{bound_end, bound, ParamList, Call, Binding, call_of, binding, made_by, bound_code, bound_object, bound_function, generator_if, generator_of, begun, bind}
 use Rattle.op_rules.specs.Calls.{keywords_of, are_cells, func_made, func_by, call_object}
 use Rattle.op_rules.specs.Classes.{attribute_row}
 use Rattle.op_rules.specs.Comparisons.{give_bool, same_end, not_row, truth_row, object_truth, is_row}
@@ -76,14 +80,14 @@ use Rattle.op_rules.specs.TextMethods.{give_text, sized_text, join_after}
 use Rattle.op_rules.specs.TextParts.{joined}
 use Rattle.op_rules.specs.TextRows.{size_limit}
 use Rattle.op_rules.specs.Views.{pairs_in, key_within, in_view, in_on}
-use Rattle.op_rules.proofs.Begun.{Asked, bound_right}
+use Rattle.op_rules.proofs.Begun.{Asked, bound_right, bind_right}
 use Rattle.op_rules.proofs.Calls.{keywords_of_all, keywords_distinct, cells_are, code_below}
-use Rattle.op_rules.proofs.Keeping.{asking_sound, bound_sound}
+use Rattle.op_rules.proofs.Keeping.{asking_sound, bound_sound, bind_sound}
 use Rattle.op_rules.proofs.Rows.{doing_right, finishing_right}
-use Rattle.py_safe.specs.Rosters.{Roster}
-use Rattle.py_safe.specs.Heaps.{Mark, Open, Block, View, view, Nature, ATuple, AList, ADict, ACell, ASpace, AnError, nature_of, IsOpen, AllOpen, BodyLaw, KeepsGenerators}
-use Rattle.py_safe.specs.Rules.{GivesTruth, TruthBehind, EndIsTruth, gives_nature, EndIsOf, EndIsThis, AfterLaw, IsAtOnce, Leaves, Stops, MakesFunction, Handed, WorldLaw, KeepsLaw}
-use Rattle.py_safe.proofs.Growth.{get_end, grows_trans}
+use Rattle.py_safe.specs.Rosters.{Role, OfModule, OfFunction, OfClass, Roster, IsBlock, HasBlocks}
+use Rattle.py_safe.specs.Heaps.{Mark, Open, Block, View, view, Nature, ATuple, AList, ADict, ACell, ASpace, AnError, nature_of, IsOpen, AllOpen, BodyLaw, KeepsGenerators, AllThere, Takes, MarkedAs}
+use Rattle.py_safe.specs.Rules.{GivesTruth, TruthBehind, EndIsTruth, gives_nature, EndIsOf, EndIsThis, AfterLaw, IsAtOnce, Leaves, Stops, MakesFunction, Handed, WorldLaw, KeepsLaw, GivenAs, MayBegin, IsCall}
+use Rattle.py_safe.proofs.Growth.{get_end, grows_trans, grows_refl}
 use Rattle.py_table.proofs.Lawful.{opens, closed_open, news_open, left, Stays, used_stays}
 
 and_left : (a b : Bool) → (a && b) ≡ true → a ≡ true
@@ -194,15 +198,37 @@ join_once text (Some (object.List items)) =
     at_once_if (list_all is_text items) (sized_text (joined text items)) _ (at_once_if (nat_le (characters (joined text items)) size_limit) (give_text (joined text items)) _ tt tt) tt
 join_once text o = tt
 
+value_once : (a : After) (v : Value) → IsAtOnce (value_after a v)
+value_once behind.Plain v = tt
+value_once behind.Truth v = truth_once v
+value_once behind.Some v = length_once (λ z. give_bool (not (int_eq z (pos 0)))) (λ z. tt) (number_of v)
+value_once behind.Length v = length_once (λ z. opend.Give (value.Int z)) (λ z. tt) (number_of v)
+value_once (behind.Made made) v = made_once made v
+value_once (behind.Join text) v = tt
+value_once behind.Tuple v = tt
+value_once (behind.Report exception) v = tt
+
 finished_once : (a : After) (w : World) (v : Value) → IsAtOnce (finished a w v).end
-finished_once behind.Plain w v = tt
-finished_once behind.Truth w v = truth_once v
-finished_once behind.Some w v = length_once (λ z. give_bool (not (int_eq z (pos 0)))) (λ z. tt) (number_of v)
-finished_once behind.Length w v = length_once (λ z. opend.Give (value.Int z)) (λ z. tt) (number_of v)
-finished_once (behind.Made made) w v = made_once made v
 finished_once (behind.Join text) w v = join_once text (object_of w.heap v)
 finished_once behind.Tuple w v = tuple_once w.heap (object_of w.heap v)
+finished_once behind.Plain w v = value_once behind.Plain v
+finished_once behind.Truth w v = value_once behind.Truth v
+finished_once behind.Some w v = value_once behind.Some v
+finished_once behind.Length w v = value_once behind.Length v
+finished_once (behind.Made made) w v = value_once (behind.Made made) v
 finished_once (behind.Report exception) w v = tt
+
+once_call : (e : OpEnd) → IsAtOnce e → IsCall e
+once_call (opend.Give v) p = tt
+once_call (opend.Raise n args) p = tt
+once_call (opend.Stop kind) p = tt
+once_call e p = absurd p
+
+begun_call : (f : ℕ) (a : After) (n : ℕ) (g : Option (ℕ × List Value)) (b : Bound) (made : List Object) → IsCall (begun f a n g b made).end
+begun_call f a n g (Raise m args) made = tt
+begun_call f a n g (Stop kind) made = tt
+begun_call f a n None (Ready values) made = tt
+begun_call f a n (Some g) (Ready values) made = once_call (value_after a (value.Obj (length made + n))) (value_once a (value.Obj (length made + n)))
 
 -- ---- truth values
 
@@ -347,16 +373,6 @@ doing_true op.Is w args g = same_true args
 doing_true op.Match w args g = match_true w.codes w.heap args
 doing_true other w args g = absurd g
 
-bound_true : (w : World) (e : OpEnd) → EndIsTruth e → EndIsTruth (bound_end w e).end
-bound_true w (opend.Give v) p = p
-bound_true w (opend.Raise n args) p = tt
-bound_true w (opend.Ask f args names a) p = tt
-bound_true w (opend.Stop kind) p = tt
-bound_true w e p = absurd p
-
-row_true : (o : Op) (w : World) (args : List Value) → GivesTruth o → EndIsTruth (row o w args).end
-row_true o w args g = bound_true (after w (answer w (doing o w args))) (doing o w args).end (doing_true o w args g)
-
 length_true : (f : ℤ → OpEnd) → ((z : ℤ) → EndIsTruth (f z)) → (z : Option ℤ) → EndIsTruth (length_after f z)
 length_true f p None = tt
 length_true f p (Some z) = true_if (int_lt z (pos 0)) _ (f z) tt (p z)
@@ -365,10 +381,31 @@ after_true : (v : Value) → EndIsTruth (truth_after v)
 after_true (value.Bool b) = tt
 after_true other = tt
 
+value_true : (a : After) (v : Value) → TruthBehind a → EndIsTruth (value_after a v)
+value_true behind.Truth v t = after_true v
+value_true behind.Some v t = length_true (λ z. give_bool (not (int_eq z (pos 0)))) (λ z. tt) (number_of v)
+value_true other v t = absurd t
+
 finished_true : (a : After) (w : World) (v : Value) → TruthBehind a → EndIsTruth (finished a w v).end
-finished_true behind.Truth w v t = after_true v
-finished_true behind.Some w v t = length_true (λ z. give_bool (not (int_eq z (pos 0)))) (λ z. tt) (number_of v)
+finished_true behind.Truth w v t = value_true behind.Truth v t
+finished_true behind.Some w v t = value_true behind.Some v t
 finished_true other w v t = absurd t
+
+begun_true : (f : ℕ) (a : After) (n : ℕ) (g : Option (ℕ × List Value)) (b : Bound) (made : List Object) → TruthBehind a → EndIsTruth (begun f a n g b made).end
+begun_true f a n g (Raise m args) made t = tt
+begun_true f a n g (Stop kind) made t = tt
+begun_true f a n None (Ready values) made t = t
+begun_true f a n (Some g) (Ready values) made t = value_true a (value.Obj (length made + n)) t
+
+bound_true : (w : World) (e : OpEnd) → EndIsTruth e → EndIsTruth (bound_end w e).end
+bound_true w (opend.Give v) p = p
+bound_true w (opend.Raise n args) p = tt
+bound_true w (opend.Ask f args names a) p = begun_true f a (length w.heap) _ _ _ p
+bound_true w (opend.Stop kind) p = tt
+bound_true w e p = absurd p
+
+row_true : (o : Op) (w : World) (args : List Value) → GivesTruth o → EndIsTruth (row o w args).end
+row_true o w args g = bound_true (after w (answer w (doing o w args))) (doing o w args).end (doing_true o w args g)
 
 this_if : (made : Value) (b : Bool) (e f : OpEnd) → EndIsThis made e → EndIsThis made f → EndIsThis made (if b then e else f)
 this_if made true e f p q = p
@@ -413,9 +450,21 @@ list_made w args =
 
 -- an exception, or a new one
 
+-- what goes through Made gives what was there already, if anything
+begun_of : (h : List Object) (s : Nature) (f i : ℕ) (g : Option (ℕ × List Value)) (b : Bound) (made : List Object) → i < length h → nature_of (slice_get h i) ≡ s
+    → EndIsOf (heap_after h (begun f (behind.Made (value.Obj i)) (length h) g b made)) (Some s) (begun f (behind.Made (value.Obj i)) (length h) g b made).end
+begun_of h s f i g (Raise m args) made small e = tt
+begun_of h s f i g (Stop kind) made small e = tt
+begun_of h s f i None (Ready values) made small e = ap nature_of (grown_before h made i small) ∙ e
+begun_of h s f i (Some g) (Ready values) made small e = tt
+
 exception_made : (w : World) (class : ℕ) (i : Init) → GivesOf w AnError (exception_by w.heap class i)
 exception_made w class init.Plain = gives_new w (bare class)
-exception_made w class (init.Function f) = tt
+exception_made w class (init.Function f) =
+    let n : ℕ = length w.heap in
+    let h : List Object = w.heap ++ bare class ∷ [] in
+    let b : Binding = bound_function h w.codes f (value.Obj n ∷ []) [] in
+    begun_of h AnError f n (generator_of w.codes (slice_get h f)) b.bound b.made (omega (arith, length-append w.heap (bare class ∷ []))) (ap nature_of (get_end w.heap (bare class)))
 exception_made w class init.Other = tt
 
 raised_made : (w : World) (n : ℕ) (o : Option Object) → slice_get w.heap n ≡ o → GivesOf w AnError (exc_on w.heap n o)
@@ -496,37 +545,84 @@ module _ (c : Roster) (w : World) (marks : ℕ → Mark) (l : WorldLaw c w marks
   func_makes : (code : ℕ) (d e : Value) (cells : List Value) → AllOpen marks cells → MayMake w marks code cells (func_by w.codes w.heap (Some (pos code)) (object_of w.heap d) (object_of w.heap e) cells)
   func_makes code d e cells r = func_objects code (object_of w.heap d) (object_of w.heap e) cells (known_of d) (known_of e) r
 
--- ---- a class's block is called, and doesn't begin yet
+-- ---- a class's block is called
+
+block_role : (r : Role) → MarkedAs Block r → r ≡ OfClass
+block_role OfClass p = refl
+block_role OfFunction p = absurd p
+block_role OfModule p = absurd p
+
+one_param : (ps : ParamList) → map (λ p. p.0) ps ≡ param.Only ∷ [] → (name : List ℕ) × (ps ≡ (param.Only, name) ∷ [])
+one_param [] e = absurd (cc)
+one_param (p ∷ []) e = let is : p.0 ≡ param.Only = cc in (p.1, ap (λ k. (k, p.1) ∷ []) is)
+one_param (p ∷ q ∷ ps) e = absurd (cc)
 
 some_at : {A : Type 0} (xs : List A) (i : ℕ) → i < length xs → (x : A) × (slice_get xs i ≡ Some x)
 some_at [] i p = absurd (omega arith)
 some_at (x ∷ xs) zero p = (x, refl)
 some_at (x ∷ xs) (suc i) p = some_at xs i (omega arith)
 
-idle_left : (c : Roster) (w : World) (marks : ℕ → Mark) → WorldLaw c w marks → Leaves c w marks (answer w nothing)
-idle_left c w marks l = left c w marks l nothing (record { end = tt; set = tt; made = tt }) (l.sound, tt) tt
+module _ (w : World) (f names code : ℕ) (defaults : List Value) (keywords : NameList) (cells : List Value) (header : Header) where
+  abbrev block_names : List Value
+  block_names = value.Obj names ∷ []
 
-module _ (c : Roster) (w : World) (marks : ℕ → Mark) (l : WorldLaw c w marks) (f names : ℕ) where
-  abbrev given : List Value
-  given = value.Obj names ∷ []
+  abbrev by_object : Option Object → Doing
+  by_object o = begun f behind.Plain (length w.heap) (generator_of w.codes o) (bound_object w.codes (length w.heap) block_names [] o).bound (bound_object w.codes (length w.heap) block_names [] o).made
 
-  block_asked : (code : ℕ) (defaults : List Value) (keywords : NameList) (cells : List Value) → slice_get w.heap f ≡ Some (object.Function code defaults keywords cells) → doing op.Call w (value.Obj f ∷ given) ≡ ends (opend.Ask f given [] behind.Plain)
-  block_asked code defaults keywords cells at =
-      ap (λ o. routed (object_route w.heap f true given o) op.Call w (value.Obj f ∷ given)) at ∙ ap (λ o. call_object w.heap f given [] o) at
+  abbrev by_header : Option Header → Doing
+  by_header h = begun f behind.Plain (length w.heap) (generator_if code cells h) (bound_code (length w.heap) defaults keywords block_names [] h).bound (bound_code (length w.heap) defaults keywords block_names [] h).made
 
-  block_row : (code : ℕ) (defaults : List Value) (keywords : NameList) (cells : List Value) → slice_get w.heap f ≡ Some (object.Function code defaults keywords cells) → row op.Call w (value.Obj f ∷ given) ≡ answer w nothing
-  block_row code defaults keywords cells at = ap (λ d. bound w (answer w d)) (block_asked code defaults keywords cells at)
+  abbrev by_kind : Bool → ParamList → Doing
+  by_kind generator ps =
+      let call : Call = call_of ps defaults keywords block_names [] (length w.heap) in
+      begun f behind.Plain (length w.heap) (if generator then Some (code, cells) else None) (binding header.scope call) (made_by (binding header.scope call) call)
 
-  block_by : (o : Object) → slice_get w.heap f ≡ Some o → BodyLaw c Block o → Leaves c w marks (row op.Call w (value.Obj f ∷ given))
-  block_by (object.Function code defaults keywords cells) at b =
-      subst (λ x. Leaves c w marks x) (sym (block_row code defaults keywords cells at)) (idle_left c w marks l)
-  block_by (object.Generator code state inner cells) at b = absurd b.3
-  block_by o at b = absurd b
+  abbrev block_end : OpEnd
+  block_end = opend.Ask f block_names [] behind.Plain
 
-  block_left : marks f ≡ Block → f < length w.heap → Leaves c w marks (row op.Call w (value.Obj f ∷ given))
-  block_left m small =
+  block_bound : slice_get w.heap f ≡ Some (object.Function code defaults keywords cells) → slice_get w.codes code ≡ Some header → (name : List ℕ) → header.params ≡ (param.Only, name) ∷ [] → header.generator ≡ false → bind w f block_names [] behind.Plain ≡ ends block_end
+  block_bound at there name params kind =
+      ap by_object at ∙ ap by_header there ∙ ap (λ g. by_kind g header.params) kind ∙ ap (λ ps. by_kind false ps) params
+
+  block_routed : slice_get w.heap f ≡ Some (object.Function code defaults keywords cells) → doing op.Call w (value.Obj f ∷ block_names) ≡ ends block_end
+  block_routed at =
+      ap (λ o. routed (object_route w.heap f true block_names o) op.Call w (value.Obj f ∷ block_names)) at ∙ ap (λ o. call_object w.heap f block_names [] o) at
+
+  -- it takes the names, and makes nothing else
+  block_row : slice_get w.heap f ≡ Some (object.Function code defaults keywords cells) → slice_get w.codes code ≡ Some header → IsBlock header → row op.Call w (value.Obj f ∷ block_names) ≡ keeps w.heap block_end
+  block_row at there is =
+      let ps : (name : List ℕ) × (header.params ≡ (param.Only, name) ∷ []) = one_param header.params is.0 in
+      ap (λ d. bound w (answer w d)) (block_routed at) ∙ ap (λ d. answer w d) (block_bound at there ps.0 ps.1 is.1)
+
+module _ (c : Roster) (w : World) (marks : ℕ → Mark) (blocks : HasBlocks c) (l : WorldLaw c w marks) where
+  block_at : (f names code : ℕ) (defaults : List Value) (keywords : NameList) (cells : List Value) (header : Header) → slice_get w.heap f ≡ Some (object.Function code defaults keywords cells) → slice_get w.codes code ≡ Some header → c.role code ≡ OfClass → IsA w.heap names SpaceSort → marks names ≡ Open
+      → Leaves c w marks (row op.Call w (value.Obj f ∷ value.Obj names ∷ []))
+  block_at f names code defaults keywords cells header at there role a n =
+      let listed : slice_get c.headers code ≡ Some header = subst (λ hs. slice_get hs code ≡ Some header) l.codes there in
+      let is : IsBlock header = blocks code header role listed in
+      let ps : (name : List ℕ) × (header.params ≡ (param.Only, name) ∷ []) = one_param header.params is.0 in
+      let takes : Takes c code false (value.Obj names ∷ []) = record { header = header; at = listed; count = sym (ap length ps.1); kind = is.1 } in
+      let may : MayBegin c (view w.heap marks) (Some (object.Function code defaults keywords cells)) (value.Obj names ∷ []) = (takes, ((a.there, n), tt), subst (λ r. GivenAs (view w.heap marks) r (value.Obj names ∷ [])) (sym role) a) in
+      subst (λ r. Leaves c w marks r) (sym (block_row w f names code defaults keywords cells header at there is))
+      (record {
+        sound = l.sound;
+        law = l.law;
+        grows = grows_refl (view w.heap marks);
+        generators = λ m i state given inner e. inl e;
+        end = (subst (λ o. MayBegin c (view w.heap marks) o (value.Obj names ∷ [])) (sym at) may, refl, tt);
+      })
+
+  block_by : (f names : ℕ) (o : Object) → slice_get w.heap f ≡ Some o → BodyLaw c Block o → IsA w.heap names SpaceSort → marks names ≡ Open → Leaves c w marks (row op.Call w (value.Obj f ∷ value.Obj names ∷ []))
+  block_by f names (object.Function code defaults keywords cells) at b a n =
+      let h : (x : Header) × (slice_get w.codes code ≡ Some x) = some_at w.codes code ((l.sound.heap.objects f _ at).1.0) in
+      block_at f names code defaults keywords cells h.0 at h.1 (block_role (c.role code) b.1) a n
+  block_by f names (object.Generator code state given cells) at b a n = absurd b.3
+  block_by f names o at b a n = absurd b
+
+  block_left : (f names : ℕ) → marks f ≡ Block → f < length w.heap → IsA w.heap names SpaceSort → marks names ≡ Open → Leaves c w marks (row op.Call w (value.Obj f ∷ value.Obj names ∷ []))
+  block_left f names m small a n =
       let o : (x : Object) × (slice_get w.heap f ≡ Some x) = some_at w.heap f small in
-      block_by o.0 o.1 (subst (λ x. BodyLaw c x o.0) m (l.law.bodies f o.0 o.1))
+      block_by f names o.0 o.1 (subst (λ x. BodyLaw c x o.0) m (l.law.bodies f o.0 o.1)) a n
 
 -- ---- the start: nothing is marked, and no function or generator is there
 
@@ -594,6 +690,14 @@ once_asked w (opend.Raise n args) p = tt
 once_asked w (opend.Stop kind) p = tt
 once_asked w e p = absurd p
 
+opens_of : (w : World) (marks : ℕ → Mark) (vs : List Value) → AllThere (view w.heap marks) vs → AllOpen marks vs
+opens_of w marks [] p = tt
+opens_of w marks (v ∷ vs) p = (p.0.1, opens_of w marks vs p.1)
+
+ins_of : (w : World) (marks : ℕ → Mark) (vs : List Value) → AllThere (view w.heap marks) vs → AllIn w.heap vs
+ins_of w marks [] p = tt
+ins_of w marks (v ∷ vs) p = (p.0.0, ins_of w marks vs p.1)
+
 pub table_law : DoingsKeepSound → FinishingKeepsSound → TheStartIsSound → KeepsLaw table_rules
 table_law sound finishing_sound start = record {
   fits = λ o w args s e. e;
@@ -603,8 +707,11 @@ table_law sound finishing_sound start = record {
       row_left sound c w marks l o args e (doing_right (opens marks) w (closed_open c w marks l) (group o) o args (handed_given marks o args q));
   dict = λ w. inl (record { end = refl; heap = refl });
   func = λ c w marks code tuple dict cells l e p q r. func_makes c w marks l code tuple dict cells r;
-  block = λ c w marks f names b l m p a n. block_left c w marks l f names m p;
-  bind = λ c w marks f args a l i p q. (idle_left c w marks l, tt);
+  block = λ c w marks f names b l m p a n. block_left c w marks b l f names m p a n;
+  bind = λ c w marks f args a l i p q.
+      let d : Doing = bind w f args [] a in
+      let r : Right (opens marks) w d × Asked w d.end = bind_right (opens marks) w (closed_open c w marks l) f args [] a i.1 (opens_of w marks args p) tt (after_of w marks a q) in
+      (left c w marks l d (r.0 (news_open marks (length w.heap) d.made l.law.ahead)) (bind_sound sound w f args a l.sound (ins_of w marks args p) (after_in (view w.heap marks) a q)) r.1, begun_call f a (length w.heap) _ _ _);
   finish = λ c w marks a v l p i.
       let d : Doing = finishing a w.heap v in
       let k : Closed (opens marks) w = closed_open c w marks l in

@@ -1,3 +1,5 @@
 mod AtOnce
 mod Called
 mod Keywords
+mod Begun
+mod Placed

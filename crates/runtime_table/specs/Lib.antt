@@ -1,2 +1,4 @@
+pub mod Begun
 pub mod Keywords
+pub mod Placed
 pub mod Quick

@@ -81,8 +81,8 @@ fn tuple(alloc: Global, heap: &mut Heap, value: &Value) -> Result<OpEnd, AllocEr
     Ok(OpEnd::Give(Value::Obj(number)))
 }
 
-// What becomes of a value, where no list is asked for.
-fn value_after(alloc: Global, after: After, value: Value) -> Result<OpEnd, AllocError>
+/// What becomes of the value of a function, where no list is asked for.
+pub fn value_after(alloc: Global, after: After, value: Value) -> Result<OpEnd, AllocError>
     ensures { IfOk result (λ e. e ≡ spec.value_after after value) }
 {
     match after {

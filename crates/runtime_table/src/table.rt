@@ -139,7 +139,7 @@ fn table_row(alloc: Global, op: Op, world: &mut World, args: &[Value]) -> Result
     ensures world { OnOk result (world.new ≡ after world.old (spec.row op world.old args.now)) }
 {
     let end = done(alloc, op, world, args)?;
-    Ok(bound(world, end))
+    bound(alloc, world, end)
 }
 
 /// What isn't there yet.
