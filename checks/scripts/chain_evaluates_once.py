@@ -1,0 +1,4 @@
+def f():
+    print("f")
+    return 2
+print(1 < f() < 3)

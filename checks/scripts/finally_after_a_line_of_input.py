@@ -1,0 +1,5 @@
+try:
+    print(input() + input())
+    print(input())
+finally:
+    print("end")

@@ -1,0 +1,4 @@
+def g():
+    yield next(h)
+h = g()
+next(h)

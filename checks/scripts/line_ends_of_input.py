@@ -1,0 +1,3 @@
+while True:
+    try: print(repr(input("> ")))
+    except EOFError: break

@@ -1,0 +1,3 @@
+a, *b, c = range(5)
+print(a, b, c)
+a, *b, c = [1]
