@@ -2,7 +2,7 @@
 use Rattle.std.specs.Prelude.{◌≡◌, ◌≤◌, ◌⊎◌, ℕ, List, [], ◌++◌, Option, Some, None, Bool, true, ◌||◌, ◌&&◌, not, nat_le, nat_lt, length, Result, Ok, Err, ⊤}
 use Rattle.std.specs.Str.{is_utf8}
 use Rattle.nu_base.specs.Outside.{Faulted}
-use Rattle.nu_calls.specs.Lines.{NextLine, NoLine, ALine, BadLine, before_lf}
+use Rattle.nu_calls.specs.Lines.{NoLine, ALine, BadLine, before_lf, line_of}
 use Rattle.c_input.specs.declared.input.Short.{Short}
 use Rattle.c_input.specs.declared.input.Short.TheVariants as short
 use Rattle.c_input.specs.declared.input.Buffer.{Buffer}
@@ -63,7 +63,8 @@ CountsIn old new (Err short.Failed) = Faulted old new
 abbrev pub is_good : List ℕ → Bool
 is_good bytes = not (nat_le 1048576 (length bytes)) && is_utf8 bytes
 
-abbrev pub seen : Line → List ℕ → NextLine
-seen line.None rest = NoLine
-seen (line.Text text) rest = ALine text rest
-seen line.Bad rest = BadLine
+-- the next line of an input, and what is left of it then
+abbrev pub IsNext : Line → List ℕ → List ℕ → Type 0
+IsNext line.None input left = (line_of input ≡ NoLine) × (left ≡ input)
+IsNext (line.Text text) input left = line_of input ≡ ALine text left
+IsNext line.Bad input left = (line_of input ≡ BadLine) × (left ≡ input)
