@@ -1,11 +1,12 @@
 -- Takes one after another.
 use Rattle.std.proofs.Common.{◌≡◌, ℕ, ◌<◌, ◌≤◌, ◌⊎◌, inl, inr, List, [], ◌++◌, Option, Some, None, Result, Ok, Err, true, false, refl, sym, ap, subst, ◌∙◌, arith, length, drop, take, append-nil, append_assoc}
+use Rattle.std.proofs.lemmas.List.{take-append-drop}
 use Rattle.std.specs.Prelude.{IfErr, IfSome, OnOk}
 use Rattle.nu_base.specs.Outside.{TakesSome}
 use Rattle.c_input.specs.declared.input.Buffer.{Buffer}
 use Rattle.c_input.specs.declared.input.Short.{Short}
 use Rattle.c_input.specs.declared.input.Short.TheVariants as short
-use Rattle.c_input.specs.Lines.{Drains, Empties, Fills, IsEmpty, IsFew, Took, is_whole}
+use Rattle.c_input.specs.Lines.{Drained, Drains, Empties, Fills, IsEmpty, IsFew, Took, is_whole}
 
 drains_none : (a d : Option (List ℕ)) → d ≡ a → Drains a d []
 drains_none None d e = tt
@@ -15,14 +16,23 @@ empties_same : (a : Option (List ℕ)) → IsEmpty a → Empties a a
 empties_same None h = tt
 empties_same (Some bytes) h = ap Some h
 
+pub drained_none : (a : Option (List ℕ)) (x : Buffer) → Drained a a x x []
+drained_none a x = record { drains = drains_none a a refl; ended = λ is before. empties_same a (before is); beyond = λ is. (refl, is) }
+
+-- while the end isn't seen
+drained_going : (a d : Option (List ℕ)) (x y : Buffer) (taken : List ℕ) → Drains a d taken → x.ended ≡ false → y.ended ≡ x.ended → Drained a d x y taken
+drained_going a d x y taken h going same = record {
+  drains = h;
+  ended = λ is before. absurd (let e : true ≡ false = sym is ∙ same ∙ going in cc);
+  beyond = λ is. absurd (let e : true ≡ false = sym is ∙ going in cc);
+}
+
 module _ {A : Type 0} where
   -- no take
   pub took_none : (i : A) (a : Option (List ℕ)) (x : Buffer) → Took i i a a x x
   took_none i a x = record {
     taken = [];
-    drains = drains_none a a refl;
-    ended = λ is before. empties_same a (before is);
-    beyond = λ is. (refl, is);
+    drained = drained_none a x;
     few = inl (refl, refl);
   }
 
@@ -31,9 +41,7 @@ module _ {A : Type 0} where
   filled_fault i j a d x same going part = (
     record {
       taken = [];
-      drains = drains_none a d same;
-      ended = λ is. absurd (let e : true ≡ false = sym is ∙ going in cc);
-      beyond = λ is. absurd (let e : true ≡ false = sym is ∙ going in cc);
+      drained = drained_going a d x x [] (drains_none a d same) going refl;
       few = inr (x.left, [], refl, part, omega arith);
     },
     sym (append-nil x.left),
@@ -64,6 +72,16 @@ empties_end : (a d : Option (List ℕ)) (buffer : List ℕ) (n : ℕ) → n ≡ 
 empties_end None d buffer n z b h = tt
 empties_end (Some bytes) d buffer n z b h = h.1 ∙ ap (λ k. Some (drop k bytes)) z ∙ ap Some (h.3 z b)
 
+pub drained_more : (a b d : Option (List ℕ)) (x y z : Buffer) (p q : List ℕ) → Drained a b x y p → Drained b d y z q → Drained a d x z (p ++ q)
+drained_more a b d x y z p q h k = record {
+  drains = drains_more a b d p q h.drains k.drains;
+  ended = λ is before. empties_more a b d p (y.ended ≡ true) h.drains (λ e. h.ended e before) (λ f. k.ended is f);
+  beyond = λ is.
+      let one = h.beyond is in
+      let two = k.beyond one.1 in
+      (ap (λ l. l ++ q) one.0 ∙ two.0, two.1);
+}
+
 few_more : (x y p q : List ℕ) → y ≡ x ++ p → IsFew (y ++ q) → IsFew (x ++ (p ++ q))
 few_more x y p q grows h = subst IsFew (ap (λ l. l ++ q) grows ∙ append_assoc x p q) h
 
@@ -77,9 +95,11 @@ module _ {A : Type 0} where
   filled_end i j a d buffer n x z b going part h = (
     record {
       taken = [];
-      drains = drains_end a d buffer n z h;
-      ended = λ is before. empties_end a d buffer n z b h;
-      beyond = λ is. absurd (let e : true ≡ false = sym is ∙ going in cc);
+      drained = record {
+        drains = drains_end a d buffer n z h;
+        ended = λ is before. empties_end a d buffer n z b h;
+        beyond = λ is. absurd (let e : true ≡ false = sym is ∙ going in cc);
+      };
       few = inr (x.left, [], refl, part, omega arith);
     },
     sym (append-nil x.left),
@@ -89,9 +109,7 @@ module _ {A : Type 0} where
       → y.ended ≡ x.ended → Took i j a d x y
   took_take i j a d buffer n x y few going part h same = record {
     taken = take n buffer;
-    drains = drains_take a d buffer n h;
-    ended = λ is before. absurd (let e : true ≡ false = sym is ∙ same ∙ going in cc);
-    beyond = λ is. absurd (let e : true ≡ false = sym is ∙ going in cc);
+    drained = drained_going a d x y (take n buffer) (drains_take a d buffer n h) going same;
     few = inr (x.left, take n buffer, refl, part, few);
   }
 
@@ -111,12 +129,7 @@ module _ {A : Type 0} where
   took_more i j k a b d x y z p grows q = (
     record {
       taken = p.taken ++ q.taken;
-      drains = drains_more a b d p.taken q.taken p.drains q.drains;
-      ended = λ is before. empties_more a b d p.taken (y.ended ≡ true) p.drains (λ e. p.ended e before) (λ f. q.ended is f);
-      beyond = λ is.
-          let one = p.beyond is in
-          let two = q.beyond one.1 in
-          (ap (λ l. l ++ q.taken) one.0 ∙ two.0, two.1);
+      drained = drained_more a b d x y z p.taken q.taken p.drained q.drained;
       few = few_on i j k x.left y.left p.taken q.taken grows p.few q.few;
     },
     refl,

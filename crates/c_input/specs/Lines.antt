@@ -35,13 +35,16 @@ is_whole bytes = nat_le 1048576 (length bytes) || has_lf bytes
 abbrev pub IsFew : List ℕ → Type 0
 IsFew bytes = (front : List ℕ) × (chunk : List ℕ) × (bytes ≡ front ++ chunk) × (is_whole front ≡ false) × (length chunk ≤ 4096)
 
--- These bytes were taken, the last of them while the line at the front of what was there wasn't whole. Where the end was seen nothing
--- is left, and behind it nothing is taken.
-pub record Took {A : Type 0} (input input' : A) (left left' : Option (List ℕ)) (old new : Buffer) : Type 0 where
-  pub taken : List ℕ
+-- these bytes were taken; where the end was seen nothing is left, and behind it nothing is taken
+pub record Drained (left left' : Option (List ℕ)) (old new : Buffer) (taken : List ℕ) : Type 0 where
   pub drains : Drains left left' taken
   pub ended : new.ended ≡ true → (old.ended ≡ true → IsEmpty left) → Empties left left'
   pub beyond : old.ended ≡ true → (taken ≡ []) × (new.ended ≡ true)
+
+-- the input is as it was, or the last take stands behind bytes whose first line isn't whole
+pub record Took {A : Type 0} (input input' : A) (left left' : Option (List ℕ)) (old new : Buffer) : Type 0 where
+  pub taken : List ℕ
+  pub drained : Drained left left' old new taken
   pub few : ((input' ≡ input) × (taken ≡ [])) ⊎ IsFew (old.left ++ taken)
 
 -- where what was taken stands after a call: behind what the buffer had; after a fault the line isn't whole

@@ -3,7 +3,9 @@ mod Arguments
 mod Pending
 mod Frames
 mod Reports
-mod Rows
+mod Inputs
+mod Links
+pub mod Told
 mod Operations
 mod Marks
 mod Sinks

@@ -14,7 +14,7 @@ use Rattle.c_machine.specs.declared.ending.Trouble.{Trouble}
 use Rattle.c_machine.specs.declared.ending.Trouble.TheVariants as trouble
 use Rattle.c_input.specs.declared.input.Buffer.{Buffer}
 use Rattle.c_input.specs.declared.input.Line.{Line}
-use Rattle.c_input.specs.Lines.{Drains, Empties, IsEmpty, IsNext, Took, is_whole}
+use Rattle.c_input.specs.Lines.{Drained, IsNext, Took, is_whole}
 use Rattle.c_stack.specs.declared.execution.Execution.{Execution}
 use Rattle.c_stack.specs.Standing.{Outside, Standing, follows, stands, printing}
 use Rattle.c_machine.specs.Inputs.{Follows, IsRead, LastAsk, over}
@@ -134,9 +134,7 @@ Walks c n taken old new (Err e) =
 -- of it and what was taken, and ends there if its end was seen.
 pub record Ran {A : Type 0} (n : ℕ) (input input' : A) (left left' held held' : Option (List ℕ)) (old new : Seen) (result : Result Answer Trouble) : Type 0 where
   pub taken : List ℕ
-  pub drains : Drains left left' taken
-  pub ended : new.lines.ended ≡ true → (old.lines.ended ≡ true → IsEmpty left) → Empties left left'
-  pub beyond : old.lines.ended ≡ true → (taken ≡ []) × (new.lines.ended ≡ true)
+  pub drained : Drained left left' old.lines new.lines taken
   -- nothing was taken, or the last of it while a step asked for a line that wasn't whole
   pub few : ((input' ≡ input) × (taken ≡ [])) ⊎ LastAsk old.code n old.standing old.lines new.lines taken
   -- the output gets what the run of the program prints within these steps, or after a trouble a front of it
