@@ -5,6 +5,7 @@ mod Frames
 mod Reports
 mod Inputs
 mod Links
+mod Progress
 pub mod Told
 mod Operations
 mod Marks

@@ -174,6 +174,15 @@ ask_on c n a la lb lc s t none beyond h = record {
       ap (λ l. gone (step table_rules c) h.before (stands a (over [] (la.left ++ l)))) (sym same) ∙ h.leads rest (λ is. follows (beyond is).1);
 }
 
+ask_leads : (c : Code) (k : ℕ) (a b : Standing) (la lb lc : Buffer) (s t x front chunk : List ℕ) → b.end ≡ None → (lb.ended ≡ true → (t ≡ []) × (lc.ended ≡ true)) → Stretch c k k a b la lb s x → lb.left ++ t ≡ front ++ chunk
+    → (rest : List ℕ) → Follows lc rest → gone (step table_rules c) k (stands a (over [] (la.left ++ ((s ++ t) ++ rest)))) ≡ More (state_of b.execution (over x (front ++ (chunk ++ rest))))
+ask_leads c k a b la lb lc s t x front chunk going beyond h is rest follows =
+    let input : lb.left ++ (t ++ rest) ≡ front ++ (chunk ++ rest) = sym (append_assoc lb.left t rest) ∙ ap (λ l. l ++ rest) is ∙ append_assoc front chunk rest in
+    ap (λ l. gone (step table_rules c) k (stands a (over [] (la.left ++ l)))) (append_assoc s t rest)
+    ∙ (h [] (t ++ rest) (follows_more lb lc t rest beyond follows)).exact
+    ∙ stands_going b (over x (lb.left ++ (t ++ rest))) going
+    ∙ ap (λ l. More (state_of b.execution (over x l))) input
+
 -- a step that asks for a line
 pub ask_new : (c : Code) (n k : ℕ) (a b : Standing) (la lb lc : Buffer) (s t x front chunk : List ℕ) → k < n → b.end ≡ None → asks c b.execution ≡ true → (lb.ended ≡ true → (t ≡ []) × (lc.ended ≡ true)) → Stretch c k k a b la lb s x
     → lb.left ++ t ≡ front ++ chunk → is_whole front ≡ false → length chunk ≤ 4096 → LastAsk c n a la lc (s ++ t)
@@ -187,13 +196,28 @@ ask_new c n k a b la lb lc s t x front chunk less going asked beyond h is part f
   chunk = chunk;
   part = part;
   few = few;
-  leads = λ rest follows.
-      let input : lb.left ++ (t ++ rest) ≡ front ++ (chunk ++ rest) = sym (append_assoc lb.left t rest) ∙ ap (λ l. l ++ rest) is ∙ append_assoc front chunk rest in
-      ap (λ l. gone (step table_rules c) k (stands a (over [] (la.left ++ l)))) (append_assoc s t rest)
-      ∙ (h [] (t ++ rest) (follows_more lb lc t rest beyond follows)).exact
-      ∙ stands_going b (over x (lb.left ++ (t ++ rest))) going
-      ∙ ap (λ l. More (state_of b.execution (over x l))) input;
+  leads = λ rest follows. ask_leads c k a b la lb lc s t x front chunk going beyond h is rest follows;
 }
+
+-- one at which the input failed
+pub ask_fault : (c : Code) (n k : ℕ) (a b : Standing) (la lb lc : Buffer) (s t x : List ℕ) → k < n → b.end ≡ None → asks c b.execution ≡ true → (lb.ended ≡ true → (t ≡ []) × (lc.ended ≡ true)) → Stretch c k k a b la lb s x
+    → is_whole (lb.left ++ t) ≡ false → (ask : LastAsk c n a la lc (s ++ t)) × (ask.chunk ≡ []) × (ask.printed ≡ x)
+ask_fault c n k a b la lb lc s t x less going asked beyond h part = (
+  record {
+    before = k;
+    within = less;
+    asking = b.execution;
+    asks = asked;
+    printed = x;
+    front = lb.left ++ t;
+    chunk = [];
+    part = part;
+    few = omega arith;
+    leads = λ rest follows. ask_leads c k a b la lb lc s t x (lb.left ++ t) [] going beyond h (sym (append-nil (lb.left ++ t))) rest follows;
+  },
+  refl,
+  refl,
+)
 
 module _ {A : Type 0} where
   -- what stands of a run so far

@@ -1,0 +1,131 @@
+-- How far a run has come.
+use Rattle.std.proofs.Common.{◌≡◌, ◌⊎◌, inl, inr, ℕ, ◌+◌, ◌<◌, ◌≤◌, List, [], ◌++◌, refl, sym, ◌∙◌, ap, subst, arith, append_assoc, append-nil, Bool, false, true, Option, Some, None, Result, Ok, Err}
+use Rattle.nu_base.specs.Outside.{Adds}
+use Rattle.nu_run.specs.declared.End.{End}
+use Rattle.nu_run.specs.Runs.{IsPrefix}
+use Rattle.nu_run.specs.Steps.{Stepped}
+use Rattle.op_rules.specs.TableRules.{table_rules}
+use Rattle.c_meaning.specs.declared.code.Code.{Code}
+use Rattle.c_meaning.specs.State.{State}
+use Rattle.c_meaning.specs.Step.{step}
+use Rattle.c_input.specs.declared.input.Buffer.{Buffer}
+use Rattle.c_input.specs.Lines.{Drained, is_whole}
+use Rattle.c_input.proofs.Filling.{drained_none, drained_more}
+use Rattle.c_stack.specs.Standing.{Outside, Standing, state_of, stands}
+use Rattle.c_machine.specs.declared.ending.Stepped.{Stepped as Answer}
+use Rattle.c_machine.specs.declared.ending.Stepped.TheVariants as answer
+use Rattle.c_machine.specs.declared.ending.Trouble.{Trouble}
+use Rattle.c_machine.specs.declared.ending.Trouble.TheVariants as trouble
+use Rattle.c_machine.specs.Calls.{GaveUp, Ran, Runs, counted}
+use Rattle.c_machine.specs.Inputs.{Follows, LastAsk, asks, over}
+use Rattle.c_machine.specs.Machines.{Seen, run_from}
+use Rattle.c_machine.proofs.Links.{Link, Outcome}
+use Rattle.c_machine.proofs.Sinks.{adds_nothing, adds_more}
+use Rattle.c_machine.proofs.Stretches.{Few, Stretch, ask_fault, few_on, follows_more, run_ends, run_goes, runs_cut, stretch_end, stretch_none, stretch_on, stretch_rest}
+
+-- k steps of at most n were taken, and none was the last
+pub record SoFar {A : Type 0} (input input' : A) (left left' held held' : Option (List ℕ)) (c : Code) (n k : ℕ) (a b : Standing) (old new : Buffer) : Type 0 where
+  pub taken : List ℕ
+  pub piece : List ℕ
+  pub drained : Drained left left' old new taken
+  pub few : Few input input' c n a old new taken
+  pub adds : Adds held held' piece
+  pub stretch : Stretch c k k a b old new taken piece
+
+-- a step of a machine, as one link
+abbrev pub Goes : {A : Type 0} → A → A → Option (List ℕ) → Option (List ℕ) → Option (List ℕ) → Option (List ℕ) → Code → Seen → Seen → Result Answer Trouble → Type 0
+Goes input input' left left' held held' c old new r =
+    Link (asks c old.standing.execution) (λ w. step table_rules c (state_of old.standing.execution w)) input input' left left' held held' old.lines new.lines new.standing r
+
+some_ended : (e : End) → None ≡ Some e → ⊥
+some_ended e h = cc
+
+fault_of : (asked : Bool) (after : Outside → Stepped State) (held held' : Option (List ℕ)) (old new : Buffer) (taken : List ℕ) (s : Standing) (r : Result Answer Trouble) → r ≡ Err trouble.ReadFault → Outcome asked after held held' old new taken s r
+    → (held' ≡ held) × (asked ≡ true) × (is_whole (old.left ++ taken) ≡ false)
+fault_of asked after held held' old new taken s r is h = subst (Outcome asked after held held' old new taken s) is h
+
+no_fault : (a : Answer) → Ok a ≡ Err trouble.ReadFault → ⊥
+no_fault a h = cc
+
+module _ {A : Type 0} (i j : A) (l l' h h' : Option (List ℕ)) (n k : ℕ) (old mid : Seen) where
+  pub so_far_none : SoFar i i l l h h old.code n 0 old.standing old.standing old.lines old.lines
+  so_far_none = record {
+    taken = [];
+    piece = [];
+    drained = drained_none l old.lines;
+    few = inl (refl, refl);
+    adds = adds_nothing h;
+    stretch = stretch_none old.code old.standing old.lines;
+  }
+
+  -- a machine that had ended
+  pub ran_rest : (e : End) → old.standing.end ≡ Some e → Ran n i i l l h h old old (Ok answer.Ended)
+  ran_rest e is = record {
+    taken = [];
+    drained = drained_none l old.lines;
+    few = inl (refl, refl);
+    runs = λ rest follows.
+        let all = stretch_rest old.code n old.standing old.lines e is in
+        ([], e, run_ends old.code n 0 old.standing old.standing [] _ _ e is (all [] rest follows), is, adds_nothing h);
+    walks = (0, [], record { leads = stretch_rest old.code n old.standing old.lines e is }, refl);
+    fault = λ is. absurd (no_fault answer.Ended is);
+  }
+
+  -- all steps were taken
+  pub ran_goes : mid.standing.end ≡ None → mid.steps ≡ counted old.steps k → k ≡ n → SoFar i j l l' h h' old.code n k old.standing mid.standing old.lines mid.lines → Ran n i j l l' h h' old mid (Ok answer.More)
+  ran_goes going steps all s =
+      let whole : Stretch old.code n k old.standing mid.standing old.lines mid.lines s.taken s.piece = subst (λ m. Stretch old.code m k old.standing mid.standing old.lines mid.lines s.taken s.piece) all s.stretch in
+      record {
+        taken = s.taken;
+        drained = s.drained;
+        few = s.few;
+        runs = λ rest follows. (s.piece, run_goes old.code n k old.standing mid.standing s.piece _ _ going (whole [] rest follows), going, s.adds);
+        walks = (k, s.piece, record { leads = whole }, steps);
+        fault = λ is. absurd (no_fault answer.More is);
+      }
+
+  module _ (j' : A) (l'' h'' : Option (List ℕ)) (new : Seen) (less : k < n) (going : mid.standing.end ≡ None) (s : SoFar i j l l' h h' old.code n k old.standing mid.standing old.lines mid.lines) where
+    beyond_of : (r : Result Answer Trouble) → (t : Goes j j' l' l'' h' h'' old.code mid new r) → mid.lines.ended ≡ true → (t.taken ≡ []) × (new.lines.ended ≡ true)
+    beyond_of r t = t.drained.beyond
+
+    -- one step more
+    pub so_far_on : (a : Answer) → Goes j j' l' l'' h' h'' old.code mid new (Ok a) → SoFar i j' l l'' h h'' old.code n (k + 1) old.standing new.standing old.lines new.lines
+    so_far_on a t = record {
+      taken = s.taken ++ t.taken;
+      piece = s.piece ++ t.came.0;
+      drained = drained_more l l' l'' old.lines mid.lines new.lines s.taken t.taken s.drained t.drained;
+      few = few_on i j j' old.code n k old.standing mid.standing old.lines mid.lines new.lines s.taken t.taken s.piece less going t.drained.beyond s.stretch s.few t.few;
+      adds = adds_more h h' h'' s.piece t.came.0 s.adds t.came.1;
+      stretch = stretch_on old.code k old.standing mid.standing new.standing old.lines mid.lines new.lines s.taken t.taken s.piece t.came.0 going t.drained.beyond s.stretch t.came.2;
+    }
+
+    -- the step was the last
+    pub ran_ends : (e : End) → new.standing.end ≡ Some e → new.steps ≡ counted old.steps (k + 1) → Goes j j' l' l'' h' h'' old.code mid new (Ok answer.Ended) → Ran n i j' l l'' h h'' old new (Ok answer.Ended)
+    ran_ends e is steps t =
+        let all = so_far_on answer.Ended t in
+        let whole = stretch_end old.code (k + 1) n (k + 1) old.standing new.standing old.lines new.lines all.taken all.piece e (omega (arith, less)) is all.stretch in
+        record {
+          taken = all.taken;
+          drained = all.drained;
+          few = all.few;
+          runs = λ rest follows. (all.piece, e, run_ends old.code n (k + 1) old.standing new.standing all.piece _ _ e is (whole [] rest follows), is, all.adds);
+          walks = (k + 1, all.piece, record { leads = whole }, steps);
+          fault = λ is. absurd (no_fault answer.Ended is);
+        }
+
+    -- the step came to a trouble
+    pub ran_cut : (e : Trouble) → old.standing.end ≡ None → mid.steps ≡ counted old.steps k → GaveUp mid new → Goes j j' l' l'' h' h'' old.code mid new (Err e) → Ran n i j' l l'' h h'' old new (Err e)
+    ran_cut e begins steps gave t = record {
+      taken = s.taken ++ t.taken;
+      drained = drained_more l l' l'' old.lines mid.lines new.lines s.taken t.taken s.drained t.drained;
+      few = few_on i j j' old.code n k old.standing mid.standing old.lines mid.lines new.lines s.taken t.taken s.piece less going t.drained.beyond s.stretch s.few t.few;
+      runs = λ rest follows.
+          let lead = s.stretch [] (t.taken ++ rest) (follows_more mid.lines new.lines t.taken rest t.drained.beyond follows) in
+          let runs = runs_cut old.code n k old.standing mid.standing new.standing mid.lines new.lines _ t.taken s.piece (old.lines.left ++ (s.taken ++ (t.taken ++ rest))) (mid.lines.left ++ (t.taken ++ rest)) h h' h'' new.standing.end less begins going lead s.adds e t.came in
+          subst (λ i. Runs (run_from old (old.lines.left ++ i) n) h h'' new.standing.end (Err e)) (sym (append_assoc s.taken t.taken rest)) runs;
+      walks = (k, s.taken, s.piece, mid.standing, mid.lines, less, going, record { leads = s.stretch }, record { rest = t.taken; is = refl }, gave.steps ∙ steps, gave.end ∙ going);
+      fault = λ is.
+          let f = fault_of _ (λ w. step table_rules old.code (state_of mid.standing.execution w)) h' h'' mid.lines new.lines t.taken new.standing (Err e) is t.came in
+          let ask = ask_fault old.code n k old.standing mid.standing old.lines mid.lines new.lines s.taken t.taken s.piece less going f.1 t.drained.beyond s.stretch f.2 in
+          (ask.0, ask.1, subst (λ o. Adds h o ask.0.printed) (sym f.0) (subst (Adds h h') (sym ask.2) s.adds));
+    }
