@@ -6,22 +6,32 @@ use Rattle.nu_run.specs.Runs.{IsPrefix}
 use Rattle.nu_run.specs.Steps.{Stepped}
 use Rattle.op_rules.specs.TableRules.{table_rules}
 use Rattle.c_meaning.specs.declared.code.Code.{Code}
-use Rattle.c_meaning.specs.State.{State}
-use Rattle.c_meaning.specs.Step.{step}
+use Rattle.c_meaning.specs.Step.{placed_at, step}
 use Rattle.c_input.specs.declared.input.Buffer.{Buffer}
-use Rattle.c_input.specs.Lines.{Drained, is_whole}
+use Rattle.c_input.specs.Lines.{Drained, Took, is_whole}
 use Rattle.c_input.proofs.Filling.{drained_none, drained_more}
-use Rattle.c_stack.specs.Standing.{Outside, Standing, state_of, stands}
+use Rattle.c_meaning.specs.declared.program.Statement.{Statement}
+use Rattle.c_meaning.specs.declared.program.Statement.TheVariants as statement
+use Rattle.c_meaning.specs.declared.program.Stored.{Stored}
+use Rattle.c_meaning.specs.declared.program.Stored.TheVariants as stored
+use Rattle.c_meaning.specs.declared.code.Placed.{Placed}
+use Rattle.c_meaning.specs.State.{State, printed_in}
+use Rattle.c_stack.specs.declared.execution.Execution.{Execution}
+use Rattle.c_stack.specs.Light.{is_light_store}
+use Rattle.c_stack.specs.Standing.{Outside, Standing, state_of, stands, printing}
+use Rattle.c_machine.specs.Light.{is_light, is_light_statement}
+use Rattle.c_machine.specs.Walks.{gone}
+use Rattle.c_machine.proofs.Walks.{gone_on}
 use Rattle.c_machine.specs.declared.ending.Stepped.{Stepped as Answer}
 use Rattle.c_machine.specs.declared.ending.Stepped.TheVariants as answer
 use Rattle.c_machine.specs.declared.ending.Trouble.{Trouble}
 use Rattle.c_machine.specs.declared.ending.Trouble.TheVariants as trouble
-use Rattle.c_machine.specs.Calls.{GaveUp, Ran, Runs, counted}
-use Rattle.c_machine.specs.Inputs.{Follows, LastAsk, asks, over}
+use Rattle.c_machine.specs.Calls.{GaveUp, Ran, Runs, Takes, TakesLine, counted}
+use Rattle.c_machine.specs.Inputs.{Follows, LastAsk, asks, over, placed_asks, statement_asks, store_asks}
 use Rattle.c_machine.specs.Machines.{Seen, run_from}
-use Rattle.c_machine.proofs.Links.{Link, Outcome}
+use Rattle.c_machine.proofs.Links.{Link, Outcome, link}
 use Rattle.c_machine.proofs.Sinks.{adds_nothing, adds_more}
-use Rattle.c_machine.proofs.Stretches.{Few, Stretch, ask_fault, few_on, follows_more, run_ends, run_goes, runs_cut, stretch_end, stretch_none, stretch_on, stretch_rest}
+use Rattle.c_machine.proofs.Stretches.{Few, Stretch, ask_fault, few_on, follows_more, run_ends, run_goes, runs_cut, stands_going, stretch_end, stretch_none, stretch_on, stretch_rest}
 
 -- k steps of at most n were taken, and none was the last
 pub record SoFar {A : Type 0} (input input' : A) (left left' held held' : Option (List ℕ)) (c : Code) (n k : ℕ) (a b : Standing) (old new : Buffer) : Type 0 where
@@ -37,8 +47,14 @@ abbrev pub Goes : {A : Type 0} → A → A → Option (List ℕ) → Option (Lis
 Goes input input' left left' held held' c old new r =
     Link (asks c old.standing.execution) (λ w. step table_rules c (state_of old.standing.execution w)) input input' left left' held held' old.lines new.lines new.standing r
 
-some_ended : (e : End) → None ≡ Some e → ⊥
-some_ended e h = cc
+pub goes : {A B : Type 0} (told : A → Option (List ℕ)) (holds : B → Option (List ℕ)) (c : Code) (i j : A) (o p : B) (old new : Seen) (r : Result Answer Trouble) → old.code ≡ c
+    → (asks old.code old.standing.execution ≡ false → Takes (λ w. step table_rules old.code (state_of old.standing.execution w)) (holds o) (holds p) new.standing r)
+    → (asks old.code old.standing.execution ≡ false → (j ≡ i) × (new.lines ≡ old.lines))
+    → (asks old.code old.standing.execution ≡ true → (took : Took i j (told i) (told j) old.lines new.lines) × TakesLine (λ w. step table_rules old.code (state_of old.standing.execution w)) old.lines new.lines took.taken new.standing r)
+    → (asks old.code old.standing.execution ≡ true → p ≡ o) → Goes i j (told i) (told j) (holds o) (holds p) c old new r
+goes told holds c i j o p old new r same takes quiet reads prints =
+    subst (λ k. Goes i j (told i) (told j) (holds o) (holds p) k old new r) same
+    (link told holds (asks old.code old.standing.execution) (λ w. step table_rules old.code (state_of old.standing.execution w)) i j o p old.lines new.lines new.standing r takes quiet reads prints)
 
 fault_of : (asked : Bool) (after : Outside → Stepped State) (held held' : Option (List ℕ)) (old new : Buffer) (taken : List ℕ) (s : Standing) (r : Result Answer Trouble) → r ≡ Err trouble.ReadFault → Outcome asked after held held' old new taken s r
     → (held' ≡ held) × (asked ≡ true) × (is_whole (old.left ++ taken) ≡ false)
@@ -129,3 +145,28 @@ module _ {A : Type 0} (i j : A) (l l' h h' : Option (List ℕ)) (n k : ℕ) (old
           let ask = ask_fault old.code n k old.standing mid.standing old.lines mid.lines new.lines s.taken t.taken s.piece less going f.1 t.drained.beyond s.stretch f.2 in
           (ask.0, ask.1, subst (λ o. Adds h o ask.0.printed) (sym f.0) (subst (Adds h h') (sym ask.2) s.adds));
     }
+
+-- ---- steps that take no memory
+
+light_store : (x : Execution) (what : Stored) → is_light_store x.running what ≡ true → store_asks x what ≡ false
+light_store x (stored.Operation o at arguments fail) h = absurd (cc)
+light_store x other h = refl
+
+light_statement : (x : Execution) (s : Statement) → is_light_statement x s ≡ true → statement_asks x s ≡ false
+light_statement x (statement.Store to what) h = light_store x what h
+light_statement x other h = refl
+
+light_placed : (x : Execution) (o : Option Placed) → is_light x o ≡ true → placed_asks x o ≡ false
+light_placed x None h = refl
+light_placed x (Some p) h = light_statement x p.statement h
+
+-- they ask for no line
+pub light_asks : (c : Code) (x : Execution) → is_light x (placed_at c x.running) ≡ true → asks c x ≡ false
+light_asks c x h = light_placed x (placed_at c x.running) h
+
+-- the same piece is printed whatever is outside
+pub light_on : (c : Code) (k : ℕ) (a b d : Standing) (x y : List ℕ) → b.end ≡ None → ((w : Outside) → gone (step table_rules c) k (stands a w) ≡ stands b (printing w x))
+    → ((w : Outside) → step table_rules c (state_of b.execution w) ≡ stands d (printing w y)) → (w : Outside) → gone (step table_rules c) (k + 1) (stands a w) ≡ stands d (printing w (x ++ y))
+light_on c k a b d x y going h one w =
+    gone_on (step table_rules c) printed_in k 1 (stands a w) ∙ ap (gone (step table_rules c) 1) (h w ∙ stands_going b (printing w x) going) ∙ one (printing w x)
+    ∙ ap (λ l. stands d (over l w.input)) (append_assoc w.printed x y)
