@@ -37,7 +37,7 @@ module _ {A : Type 0} where
   }
 
   -- a take that failed
-  pub filled_fault : (i j : A) (a d : Option (List ℕ)) (x : Buffer) → d ≡ a → x.ended ≡ false → is_whole x.left ≡ false → Fills i j a d x x (Err {A = Unit {0}} short.Failed)
+  pub filled_fault : {B : Type 0} (i j : A) (a d : Option (List ℕ)) (x : Buffer) → d ≡ a → x.ended ≡ false → is_whole x.left ≡ false → Fills i j a d x x (Err {A = B} short.Failed)
   filled_fault i j a d x same going part = (
     record {
       taken = [];
@@ -90,9 +90,9 @@ few_none x p q none h = subst (λ l. IsFew (x ++ l)) (sym (append-nil p) ∙ ap 
 
 module _ {A : Type 0} where
   -- the end of the input
-  pub filled_end : (i j : A) (a d : Option (List ℕ)) (buffer : List ℕ) (n : ℕ) (x : Buffer) → n ≡ 0 → 0 < length buffer → x.ended ≡ false → is_whole x.left ≡ false → IfSome a (λ bytes. TakesSome bytes d buffer n)
-      → Fills i j a d x (record { left = x.left; ended = true }) (Ok {E = Short} (tt : Unit {0}))
-  filled_end i j a d buffer n x z b going part h = (
+  pub filled_end : (i j : A) (a d : Option (List ℕ)) (buffer : List ℕ) {B : Type 0} (n : ℕ) (x : Buffer) (u : B) → n ≡ 0 → 0 < length buffer → x.ended ≡ false → is_whole x.left ≡ false → IfSome a (λ bytes. TakesSome bytes d buffer n)
+      → Fills i j a d x (record { left = x.left; ended = true }) (Ok u)
+  filled_end i j a d buffer n x u z b going part h = (
     record {
       taken = [];
       drained = record {

@@ -1,5 +1,5 @@
 -- The input of a machine: what was taken of it.
-use Rattle.std.specs.Prelude.{◌≡◌, ◌≤◌, ◌⊎◌, ℕ, List, [], ◌++◌, Option, Some, None, Bool, true, ◌||◌, ◌&&◌, not, nat_le, nat_lt, length, Result, Ok, Err, ⊤}
+use Rattle.std.specs.Prelude.{◌≡◌, ◌≤◌, ◌⊎◌, ℕ, List, [], ◌++◌, Option, Some, None, Bool, true, false, ◌||◌, ◌&&◌, not, nat_le, nat_lt, length, Result, Ok, Err, ⊤}
 use Rattle.std.specs.Str.{is_utf8}
 use Rattle.nu_base.specs.Outside.{Faulted}
 use Rattle.nu_calls.specs.Lines.{NoLine, ALine, BadLine, before_lf, line_of}

@@ -63,30 +63,30 @@ fault_of asked after held held' old new taken s r is h = subst (Outcome asked af
 no_fault : (a : Answer) → Ok a ≡ Err trouble.ReadFault → ⊥
 no_fault a h = cc
 
+pub so_far_none : {A : Type 0} (i : A) (l h : Option (List ℕ)) (c : Code) (n : ℕ) (a : Standing) (lines : Buffer) → SoFar i i l l h h c n 0 a a lines lines
+so_far_none i l h c n a lines = record {
+  taken = [];
+  piece = [];
+  drained = drained_none l lines;
+  few = inl (refl, refl);
+  adds = adds_nothing h;
+  stretch = stretch_none c a lines;
+}
+
+-- a machine that had ended
+pub ran_rest : {A : Type 0} (i : A) (l h : Option (List ℕ)) (n : ℕ) (old : Seen) (e : End) → old.standing.end ≡ Some e → Ran n i i l l h h old old (Ok answer.Ended)
+ran_rest i l h n old e is = record {
+  taken = [];
+  drained = drained_none l old.lines;
+  few = inl (refl, refl);
+  runs = λ rest follows.
+      let all = stretch_rest old.code n old.standing old.lines e is in
+      ([], e, run_ends old.code n 0 old.standing old.standing [] _ _ e is (all [] rest follows), is, adds_nothing h);
+  walks = (0, [], record { leads = stretch_rest old.code n old.standing old.lines e is }, refl);
+  fault = λ is. absurd (no_fault answer.Ended is);
+}
+
 module _ {A : Type 0} (i j : A) (l l' h h' : Option (List ℕ)) (n k : ℕ) (old mid : Seen) where
-  pub so_far_none : SoFar i i l l h h old.code n 0 old.standing old.standing old.lines old.lines
-  so_far_none = record {
-    taken = [];
-    piece = [];
-    drained = drained_none l old.lines;
-    few = inl (refl, refl);
-    adds = adds_nothing h;
-    stretch = stretch_none old.code old.standing old.lines;
-  }
-
-  -- a machine that had ended
-  pub ran_rest : (e : End) → old.standing.end ≡ Some e → Ran n i i l l h h old old (Ok answer.Ended)
-  ran_rest e is = record {
-    taken = [];
-    drained = drained_none l old.lines;
-    few = inl (refl, refl);
-    runs = λ rest follows.
-        let all = stretch_rest old.code n old.standing old.lines e is in
-        ([], e, run_ends old.code n 0 old.standing old.standing [] _ _ e is (all [] rest follows), is, adds_nothing h);
-    walks = (0, [], record { leads = stretch_rest old.code n old.standing old.lines e is }, refl);
-    fault = λ is. absurd (no_fault answer.Ended is);
-  }
-
   -- all steps were taken
   pub ran_goes : mid.standing.end ≡ None → mid.steps ≡ counted old.steps k → k ≡ n → SoFar i j l l' h h' old.code n k old.standing mid.standing old.lines mid.lines → Ran n i j l l' h h' old mid (Ok answer.More)
   ran_goes going steps all s =
@@ -101,9 +101,6 @@ module _ {A : Type 0} (i j : A) (l l' h h' : Option (List ℕ)) (n k : ℕ) (old
       }
 
   module _ (j' : A) (l'' h'' : Option (List ℕ)) (new : Seen) (less : k < n) (going : mid.standing.end ≡ None) (s : SoFar i j l l' h h' old.code n k old.standing mid.standing old.lines mid.lines) where
-    beyond_of : (r : Result Answer Trouble) → (t : Goes j j' l' l'' h' h'' old.code mid new r) → mid.lines.ended ≡ true → (t.taken ≡ []) × (new.lines.ended ≡ true)
-    beyond_of r t = t.drained.beyond
-
     -- one step more
     pub so_far_on : (a : Answer) → Goes j j' l' l'' h' h'' old.code mid new (Ok a) → SoFar i j' l l'' h h'' old.code n (k + 1) old.standing new.standing old.lines new.lines
     so_far_on a t = record {

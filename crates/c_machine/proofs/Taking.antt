@@ -49,6 +49,6 @@ reads_same f g old new taken x (Err trouble.Failed) e h = h
 pub steps_same : {A B : Type 0} (b b' : Bool) (f g : Outside → Stepped State) (i i' : A) (o o' : B) (left left' held held' : Option (List ℕ)) (lines lines' : Buffer) (x : Execution) (r : Result (Option End) Trouble)
     → b ≡ b' → ((w : Outside) → f w ≡ g w) → Steps b f i i' o o' left left' held held' lines lines' x r → Steps b' g i i' o o' left left' held held' lines lines' x r
 steps_same false false f g i i' o o' left left' held held' lines lines' x r s e h = (h.0, h.1, comes_same f g held held' x r e h.2)
-steps_same true true f g i i' o o' left left' held held' lines lines' x r s e h = (h.0, h.1.0, reads_same f g lines lines' h.1.0.taken x r e h.1.1)
+steps_same true true f g i i' o o' left left' held held' lines lines' x r s e h = (h.0, (h.1.0, reads_same f g lines lines' h.1.0.taken x r e h.1.1))
 steps_same false true f g i i' o o' left left' held held' lines lines' x r s e h = absurd (cc)
 steps_same true false f g i i' o o' left left' held held' lines lines' x r s e h = absurd (cc)

@@ -1,6 +1,6 @@
 //! Operations that read a line of the input.
 
-ghost use Rattle.std.specs.Prelude.{◌≡◌, ◌+◌, ◌<◌, ◌^◌, ◌×◌, List, ℕ};
+ghost use Rattle.std.specs.Prelude.{◌≡◌, ◌+◌, ◌<◌, ◌^◌, List, ℕ};
 ghost use Rattle.op_rules.specs.TableRules.{table_rules};
 ghost use Rattle.nu_calls.specs.Surroundings as surroundings;
 ghost use Rattle.nu_calls.specs.Ends as ends;

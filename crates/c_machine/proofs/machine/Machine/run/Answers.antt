@@ -15,7 +15,7 @@ pub returns-in-Some-clause-ran : goal.returns-in-Some-clause-ran
 returns-in-Some-clause-ran g c = λ works.
     let m = c.args.self.now in
     let end = rest_ended m.failed m.standing.end c.in-Some.answer c.in-Some.ensures works in
-    subst (Ran c.args.steps _ _ _ _ _ _ m m) (sym end.2) (ran_rest _ _ _ _ _ _ c.args.steps 0 m m end.0 end.1)
+    subst (Ran c.args.steps _ _ _ _ _ _ m m) (sym end.2) (ran_rest _ _ _ c.args.steps m end.0 end.1)
 
 pub loop-taken-init : goal.loop-taken-init
 loop-taken-init g c = record {
@@ -25,7 +25,7 @@ loop-taken-init g c = record {
   steps = refl;
   faults = refl;
   input_faults = refl;
-  so_far = so_far_none _ _ _ _ _ _ c.args.steps 0 c.args.self.now c.args.self.now;
+  so_far = so_far_none _ _ _ c.args.self.now.code c.args.steps c.args.self.now.standing c.args.self.now.lines;
   light = λ light. ([], λ w. ap (λ l. stands c.args.self.now.standing (over l w.input)) (sym (append-nil w.printed)));
 }
 
