@@ -29,15 +29,11 @@ drained_going a d x y taken h going same = record {
 
 module _ {A : Type 0} where
   -- no take
-  pub took_none : (i : A) (a : Option (List ℕ)) (x : Buffer) → Took i i a a x x
-  took_none i a x = record {
-    taken = [];
-    drained = drained_none a x;
-    few = inl (refl, refl);
-  }
+  pub filled_none : (i : A) (a : Option (List ℕ)) (x : Buffer) → (t : Took i i a a x x) × (x.left ≡ x.left ++ t.taken)
+  filled_none i a x = (record { taken = []; drained = drained_none a x; few = inl (refl, refl) }, sym (append-nil x.left))
 
   -- a take that failed
-  pub filled_fault : {B : Type 0} (i j : A) (a d : Option (List ℕ)) (x : Buffer) → d ≡ a → x.ended ≡ false → is_whole x.left ≡ false → Fills i j a d x x (Err {A = B} short.Failed)
+  pub filled_fault : (i j : A) (a d : Option (List ℕ)) (x : Buffer) → d ≡ a → x.ended ≡ false → is_whole x.left ≡ false → Fills i j a d x x (Err short.Failed)
   filled_fault i j a d x same going part = (
     record {
       taken = [];
@@ -88,9 +84,12 @@ few_more x y p q grows h = subst IsFew (ap (λ l. l ++ q) grows ∙ append_assoc
 few_none : (x p q : List ℕ) → q ≡ [] → IsFew (x ++ p) → IsFew (x ++ (p ++ q))
 few_none x p q none h = subst (λ l. IsFew (x ++ l)) (sym (append-nil p) ∙ ap (λ l. p ++ l) (sym none)) h
 
+grown : (x y z : List ℕ) (p q t : List ℕ) → y ≡ x ++ p → t ≡ p ++ q → z ≡ y ++ q → z ≡ x ++ t
+grown x y z p q t g e h = h ∙ ap (λ l. l ++ q) g ∙ append_assoc x p q ∙ ap (λ l. x ++ l) (sym e)
+
 module _ {A : Type 0} where
   -- the end of the input
-  pub filled_end : (i j : A) (a d : Option (List ℕ)) (buffer : List ℕ) {B : Type 0} (n : ℕ) (x : Buffer) (u : B) → n ≡ 0 → 0 < length buffer → x.ended ≡ false → is_whole x.left ≡ false → IfSome a (λ bytes. TakesSome bytes d buffer n)
+  pub filled_end : (i j : A) (a d : Option (List ℕ)) (buffer : List ℕ) (n : ℕ) (x : Buffer) (u : Unit) → n ≡ 0 → 0 < length buffer → x.ended ≡ false → is_whole x.left ≡ false → IfSome a (λ bytes. TakesSome bytes d buffer n)
       → Fills i j a d x (record { left = x.left; ended = true }) (Ok u)
   filled_end i j a d buffer n x u z b going part h = (
     record {
@@ -105,20 +104,20 @@ module _ {A : Type 0} where
     sym (append-nil x.left),
   )
 
-  took_take : (i j : A) (a d : Option (List ℕ)) (buffer : List ℕ) (n : ℕ) (x y : Buffer) → length (take n buffer) ≤ 4096 → x.ended ≡ false → is_whole x.left ≡ false → IfSome a (λ bytes. TakesSome bytes d buffer n)
+  abbrev took_take : (i j : A) (a d : Option (List ℕ)) (buffer bytes : List ℕ) (n : ℕ) (x y : Buffer) → bytes ≡ take n buffer → length bytes ≤ 4096 → x.ended ≡ false → is_whole x.left ≡ false → IfSome a (λ bytes. TakesSome bytes d buffer n)
       → y.ended ≡ x.ended → Took i j a d x y
-  took_take i j a d buffer n x y few going part h same = record {
-    taken = take n buffer;
-    drained = drained_going a d x y (take n buffer) (drains_take a d buffer n h) going same;
-    few = inr (x.left, take n buffer, refl, part, few);
+  took_take i j a d buffer bytes n x y is few going part h same = record {
+    taken = bytes;
+    drained = drained_going a d x y bytes (subst (Drains a d) (sym is) (drains_take a d buffer n h)) going same;
+    few = inr (x.left, bytes, refl, part, few);
   }
 
   -- bytes that were taken
-  pub filled_take : (i j : A) (a d : Option (List ℕ)) (buffer : List ℕ) (n : ℕ) (x y : Buffer) (r : Result (Unit {0}) Short) → length (take n buffer) ≤ 4096 → x.ended ≡ false → is_whole x.left ≡ false → IfSome a (λ bytes. TakesSome bytes d buffer n)
-      → y.ended ≡ x.ended → OnOk r (y.left ≡ x.left ++ take n buffer) → IfErr r (λ e. e ≡ short.Memory) → Fills i j a d x y r
-  filled_take i j a d buffer n x y (Ok u) few going part h same grows short = (took_take i j a d buffer n x y few going part h same, grows)
-  filled_take i j a d buffer n x y (Err short.Memory) few going part h same grows short = (took_take i j a d buffer n x y few going part h same, tt)
-  filled_take i j a d buffer n x y (Err short.Failed) few going part h same grows short = absurd (cc)
+  pub filled_take : (i j : A) (a d : Option (List ℕ)) (buffer bytes : List ℕ) (n : ℕ) (x y : Buffer) (r : Result Unit Short) → bytes ≡ take n buffer → length bytes ≤ 4096 → x.ended ≡ false → is_whole x.left ≡ false → IfSome a (λ bytes. TakesSome bytes d buffer n)
+      → y.ended ≡ x.ended → OnOk r (y.left ≡ x.left ++ bytes) → IfErr r (λ e. e ≡ short.Memory) → Fills i j a d x y r
+  filled_take i j a d buffer bytes n x y (Ok u) is few going part h same grows short = (took_take i j a d buffer bytes n x y is few going part h same, grows)
+  filled_take i j a d buffer bytes n x y (Err short.Memory) is few going part h same grows short = (took_take i j a d buffer bytes n x y is few going part h same, tt)
+  filled_take i j a d buffer bytes n x y (Err short.Failed) is few going part h same grows short = absurd (cc)
 
   few_on : (i j k : A) (x y p q : List ℕ) → y ≡ x ++ p → ((j ≡ i) × (p ≡ [])) ⊎ IsFew (x ++ p) → ((k ≡ j) × (q ≡ [])) ⊎ IsFew (y ++ q) → ((k ≡ i) × (p ++ q ≡ [])) ⊎ IsFew (x ++ (p ++ q))
   few_on i j k x y p q grows (inl g) (inl h) = inl (h.0 ∙ g.0, ap (λ l. l ++ q) g.1 ∙ h.1)
@@ -135,12 +134,9 @@ module _ {A : Type 0} where
     refl,
   )
 
-  grown : (x y z : List ℕ) (p q t : List ℕ) → y ≡ x ++ p → t ≡ p ++ q → z ≡ y ++ q → z ≡ x ++ t
-  grown x y z p q t g e h = h ∙ ap (λ l. l ++ q) g ∙ append_assoc x p q ∙ ap (λ l. x ++ l) (sym e)
-
   -- more takes behind others
-  pub filled_more : {B : Type 0} (i j k : A) (a b d : Option (List ℕ)) (x y z : Buffer) (r : Result B Short) → (p : Took i j a b x y) → y.left ≡ x.left ++ p.taken → Fills j k b d y z r → Fills i k a d x z r
+  pub filled_more : (i j k : A) (a b d : Option (List ℕ)) (x y z : Buffer) (r : Result Unit Short) → (p : Took i j a b x y) → y.left ≡ x.left ++ p.taken → Fills j k b d y z r → Fills i k a d x z r
   filled_more i j k a b d x y z (Ok u) p grows q = let t = took_more i j k a b d x y z p grows q.0 in (t.0, grown x.left y.left z.left p.taken q.0.taken t.0.taken grows t.1 q.1)
   filled_more i j k a b d x y z (Err short.Memory) p grows q = let t = took_more i j k a b d x y z p grows q.0 in (t.0, tt)
   filled_more i j k a b d x y z (Err short.Failed) p grows q =
-      let t = took_more i j k a b d x y z p grows q.0 in (t.0, grown x.left y.left z.left p.taken q.0.taken t.0.taken grows t.1 q.1.0, q.1.1)
+      let t = took_more i j k a b d x y z p grows q.0 in (t.0, (grown x.left y.left z.left p.taken q.0.taken t.0.taken grows t.1 q.1.0, q.1.1))

@@ -48,12 +48,12 @@ pub record Took {A : Type 0} (input input' : A) (left left' : Option (List ℕ))
   pub few : ((input' ≡ input) × (taken ≡ [])) ⊎ IsFew (old.left ++ taken)
 
 -- where what was taken stands after a call: behind what the buffer had; after a fault the line isn't whole
-abbrev pub Grows : {A : Type 0} → Buffer → Buffer → List ℕ → Result A Short → Type 0
+abbrev pub Grows : Buffer → Buffer → List ℕ → Result Unit Short → Type 0
 Grows old new taken (Ok answer) = new.left ≡ old.left ++ taken
 Grows old new taken (Err short.Memory) = ⊤
 Grows old new taken (Err short.Failed) = (new.left ≡ old.left ++ taken) × (is_whole new.left ≡ false)
 
-abbrev pub Fills : {A B : Type 0} → A → A → Option (List ℕ) → Option (List ℕ) → Buffer → Buffer → Result B Short → Type 0
+abbrev pub Fills : {A : Type 0} → A → A → Option (List ℕ) → Option (List ℕ) → Buffer → Buffer → Result Unit Short → Type 0
 Fills input input' left left' old new result = (took : Took input input' left left' old new) × Grows old new took.taken result
 
 -- the count of the input's faults after a call
