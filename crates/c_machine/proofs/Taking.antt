@@ -9,6 +9,7 @@ use Rattle.c_machine.specs.declared.ending.Trouble.TheVariants as trouble
 use Rattle.c_stack.specs.declared.execution.Execution.{Execution}
 use Rattle.c_stack.specs.Standing.{Outside, follows, printing}
 use Rattle.c_input.specs.declared.input.Buffer.{Buffer}
+use Rattle.c_input.proofs.Filling.{filled_none}
 use Rattle.c_machine.specs.Calls.{Comes, IsTaken, Reads, Steps, printed_after}
 use Rattle.c_machine.specs.Inputs.{over}
 use Rattle.c_machine.proofs.Sinks.{adds_nothing}
@@ -52,3 +53,8 @@ steps_same false false f g i i' o o' left left' held held' lines lines' x r s e 
 steps_same true true f g i i' o o' left left' held held' lines lines' x r s e h = (h.0, (h.1.0, reads_same f g lines lines' h.1.0.taken x r e h.1.1))
 steps_same false true f g i i' o o' left left' held held' lines lines' x r s e h = absurd (cc)
 steps_same true false f g i i' o o' left left' held held' lines lines' x r s e h = absurd (cc)
+
+-- for want of memory nothing was done
+pub steps_short : {A B : Type 0} (b : Bool) (f : Outside → Stepped State) (i : A) (o : B) (left held : Option (List ℕ)) (lines : Buffer) (x : Execution) → Steps b f i i o o left left held held lines lines x (Err trouble.Memory)
+steps_short false f i o left held lines x = (refl, refl, refl)
+steps_short true f i o left held lines x = (refl, ((filled_none i left lines).0, tt))
