@@ -40,8 +40,7 @@ module _ {A : Type 0} where
       drained = drained_going a d x x [] (drains_none a d same) going refl;
       few = inr (x.left, [], refl, part, omega arith);
     },
-    sym (append-nil x.left),
-    part,
+    (sym (append-nil x.left), part),
   )
 
 drains_more : (a b d : Option (List ℕ)) (p q : List ℕ) → Drains a b p → Drains b d q → Drains a d (p ++ q)

@@ -35,8 +35,8 @@ returns-in_err-step-clause-ran g c = λ works.
     let begins : c.args.self.now.standing.end ≡ None = (let rest : answer_at_rest c.args.self.now ≡ None = cc in (rest_none _ _ rest).1) in
     let going = (rest_none _ _ before.works).1 in
     let said = c.in_err-step.ensures in
-    let now = goes g.I.Source.left g.O.Sink.held c.args.self.now.code _ _ _ _ c.loop-taken.self c.step.new.self _ before.code (said.takes before.works) (said.quiet before.works) (said.reads before.works) (said.prints before.works) in
-    let ran = ran_cut _ _ _ _ _ _ c.args.steps c.loop-taken.taken c.args.self.now c.loop-taken.self _ _ _ c.step.new.self c.loop-taken-test.true going before.so_far _ begins before.steps (said.err before.works) now in
+    let now = goes g.I.Source.left g.O.Sink.held c.args.self.now.code _ _ _ _ c.loop-taken.self c.step.new.self (Err c.in_err-step.field-0.0) before.code (said.takes before.works) (said.quiet before.works) (said.reads before.works) (said.prints before.works) in
+    let ran = ran_cut _ _ _ _ _ _ c.args.steps c.loop-taken.taken c.args.self.now c.loop-taken.self _ _ _ c.step.new.self c.loop-taken-test.true going before.so_far c.in_err-step.field-0.0 begins before.steps (said.err before.works) now in
     let same : Err c.in_err-step.field-0.0 ≡ c.from_residual.result = search rules in
     subst (Ran c.args.steps _ _ _ _ _ _ c.args.self.now c.step.new.self) same ran
 
@@ -55,7 +55,7 @@ returns-in-Ended-clause-ran g c = λ works.
     let before = c.loop-taken.invariant in
     let going = (rest_none _ _ before.works).1 in
     let said = rw c.in-Ended.is at c.in_ok-step.ensures in
-    let now = goes g.I.Source.left g.O.Sink.held c.args.self.now.code _ _ _ _ c.loop-taken.self c.step.new.self _ before.code (said.takes before.works) (said.quiet before.works) (said.reads before.works) (said.prints before.works) in
+    let now = goes g.I.Source.left g.O.Sink.held c.args.self.now.code _ _ _ _ c.loop-taken.self c.step.new.self (Ok answer.Ended) before.code (said.takes before.works) (said.quiet before.works) (said.reads before.works) (said.prints before.works) in
     let end = answer_ended _ said.answers in
     let steps = said.steps before.works ∙ ap (λ n. counted n 1) before.steps ∙ counted_more c.args.self.now.steps c.loop-taken.taken in
     ran_ends _ _ _ _ _ _ c.args.steps c.loop-taken.taken c.args.self.now c.loop-taken.self _ _ _ c.step.new.self c.loop-taken-test.true going before.so_far end.0 end.1 steps now
@@ -66,7 +66,7 @@ loop-taken-preserved g c =
     let said = rw c.in-More.is at c.in_ok-step.ensures in
     let going = (rest_none _ _ before.works).1 in
     let goes_on = answer_more _ said.answers in
-    let now = goes g.I.Source.left g.O.Sink.held c.args.self.now.code _ _ _ _ c.loop-taken.self c.step.new.self _ before.code (said.takes before.works) (said.quiet before.works) (said.reads before.works) (said.prints before.works) in
+    let now = goes g.I.Source.left g.O.Sink.held c.args.self.now.code _ _ _ _ c.loop-taken.self c.step.new.self (Ok answer.More) before.code (said.takes before.works) (said.quiet before.works) (said.reads before.works) (said.prints before.works) in
     record {
       few = omega (arith, c.loop-taken-test.true);
       code = said.code ∙ before.code;
