@@ -1,5 +1,5 @@
 -- Lines that are read.
-use Rattle.std.proofs.Common.{◌≡◌, ◌⊎◌, inl, inr, List, [], ◌++◌, ℕ, Option, Result, Ok, Err, true, false, refl, sym, ap, subst, ◌∙◌, append_assoc}
+use Rattle.std.proofs.Common.{◌≡◌, ◌⊎◌, inl, inr, List, [], ◌++◌, ℕ, Option, Some, Result, Ok, Err, true, false, refl, sym, ap, subst, ◌∙◌, append_assoc}
 use Rattle.nu_run.specs.declared.End.{End}
 use Rattle.nu_run.specs.declared.End.TheVariants as end
 use Rattle.nu_run.specs.declared.StopKind.TheVariants as stop

@@ -19,7 +19,7 @@ use Rattle.c_stack.specs.declared.execution.Execution.{Execution}
 use Rattle.c_stack.specs.Standing.{Outside, Standing, follows, stands, printing}
 use Rattle.c_machine.specs.Inputs.{Follows, IsRead, LastAsk, over}
 use Rattle.c_machine.specs.Walks.{Leads}
-use Rattle.c_machine.specs.Machines.{Seen}
+use Rattle.c_machine.specs.Machines.{Seen, run_from}
 
 -- the count of the output's faults after a call
 abbrev pub CountsCall : {A : Type 0} → ℕ → ℕ → Result A Trouble → Type 0
