@@ -1,5 +1,5 @@
 -- Operations by the answers of the table.
-use Rattle.std.proofs.Common.{◌≡◌, List, Option, Some, None, Bool, true, false, refl}
+use Rattle.std.proofs.Common.{◌≡◌, List, Option, Some, None, Bool, true, false, refl, ap}
 use Rattle.std.specs.Prelude.{if◌then◌else◌}
 use Rattle.std.specs.Option.{option_map}
 use Rattle.nu_value.specs.declared.value.Value.{Value}
@@ -16,7 +16,15 @@ use Rattle.c_meaning.specs.State.{undefined}
 use Rattle.c_meaning.specs.Step.{began, operates}
 use Rattle.c_stack.specs.declared.execution.Execution.{Execution}
 use Rattle.c_stack.specs.declared.frames.Site.{Site}
+use Rattle.op_forms.specs.declared.end.OpEnd.TheVariants as opend
+use Rattle.c_meaning.specs.declared.program.Statement.{Statement}
+use Rattle.c_meaning.specs.declared.program.Statement.TheVariants as statement
+use Rattle.c_meaning.specs.declared.program.Stored.{Stored}
+use Rattle.c_meaning.specs.declared.program.Stored.TheVariants as stored
+use Rattle.c_ends.specs.Outcomes.{is_quiet}
 use Rattle.c_machine.specs.Effects.{answered, after_answer}
+use Rattle.c_machine.specs.Inputs.{answers_line, is_line, statement_asks, store_asks}
+use Rattle.c_machine.specs.Values.{is_operated, is_operation}
 use Rattle.c_stack.specs.Frames.{site}
 use Rattle.c_stack.specs.Standing.{Outside, state_of}
 
@@ -50,3 +58,25 @@ pub unprepared : (c : Code) (x y : Execution) (at : Site) (w : Outside) (o : Op)
     → undefined (state_of y w) ≡ operates table_rules c (state_of x w) (site at) o args
 unprepared c x y at w o None h k = rw h refl
 unprepared c x y at w o (Some args) h k = unprepared_by c x y at w (fits o x.world args) (row o x.world args) h k
+
+-- whether it asks for a line
+pub prepared_line : (e : OpEnd) (o : Option Answer) → Some e ≡ option_map end_of o → is_line e ≡ answers_line o
+prepared_line e None h = cc
+prepared_line e (Some a) h = let i : e ≡ a.end = cc in ap is_line i
+
+pub unprepared_line : (o : Option Answer) → None ≡ option_map end_of o → answers_line o ≡ false
+unprepared_line None h = refl
+unprepared_line (Some a) h = cc
+
+store_other : (x : Execution) (what : Stored) → is_operated what ≡ false → store_asks x what ≡ false
+store_other x (stored.Operation o at arguments fail) h = absurd (cc)
+store_other x other h = refl
+
+-- what is no operation asks for none
+pub other_asks : (x : Execution) (s : Statement) → is_operation s ≡ false → statement_asks x s ≡ false
+other_asks x (statement.Store to what) h = store_other x what h
+other_asks x other h = refl
+
+pub quiet_line : (e : OpEnd) → is_quiet e ≡ true → is_line e ≡ false
+quiet_line opend.Line h = absurd (cc)
+quiet_line other h = refl
