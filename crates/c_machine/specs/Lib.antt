@@ -1,5 +1,6 @@
 pub mod Simple
 pub mod Values
+pub mod Quick
 pub mod Light
 pub mod Starting
 pub mod Effects

@@ -10,9 +10,11 @@
 mod calls;
 mod ending;
 mod generators;
+mod hints;
 mod machine;
 mod operation;
 mod placing;
+mod quick;
 mod raises;
 mod report;
 mod starting;

@@ -11,6 +11,7 @@ ghost use Rattle.c_machine.specs.Machines.{IsFresh, answer_at_rest, run_from};
 ghost use Rattle.c_machine.specs.Calls.{CountsCall, GaveUp, Runs, answer_by, Takes, Walks, counted};
 
 use crate::ending::{Stepped, Trouble};
+use crate::hints::Hints;
 use crate::starting::{begin_first, code_of};
 use crate::step::step;
 use c_meaning::{CEnd, CProgram, Code};
@@ -31,6 +32,7 @@ pub struct Machine {
     failed: bool,
     // The arguments of an operation; only its room is kept.
     buffer: Items,
+    hints: Hints,
 }
 
 impl Model for Machine {
@@ -50,6 +52,11 @@ pub fn start(alloc: Global, program: CProgram) -> Result<Machine, Memory>
         drop(code);
         return Err(Memory);
     };
+    let Ok(hints) = Hints::new(alloc) else {
+        drop(execution);
+        drop(code);
+        return Err(Memory);
+    };
     let Ok(end) = begin_first(&mut execution, alloc, &code) else {
         drop(execution);
         drop(code);
@@ -63,6 +70,7 @@ pub fn start(alloc: Global, program: CProgram) -> Result<Machine, Memory>
         steps: 0,
         failed: false,
         buffer: Items::new(alloc),
+        hints,
     })
 }
 
@@ -105,6 +113,7 @@ impl Machine {
             self.alloc,
             &self.code,
             &mut self.buffer,
+            &mut self.hints,
             out,
         ) {
             Ok(end) => {

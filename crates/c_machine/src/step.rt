@@ -11,6 +11,7 @@ ghost use Rattle.c_machine.specs.Values.{is_operation};
 use crate::calls::{end_body, fail, give};
 use crate::ending::Trouble;
 use crate::generators::{pause, receive};
+use crate::hints::Hints;
 use crate::operation::operate;
 use c_ends::BodyEnd;
 use c_meaning::{CEnd, Code, Placed, Statement, Stored};
@@ -59,12 +60,13 @@ fn act(
     }
 }
 
-/// Takes a step: the next statement. The buffer is for arguments.
+/// Takes a step: the next statement. The buffer is for arguments, and the hints are for names.
 pub(crate) fn step<O: Sink>(
     run: &mut Execution,
     alloc: Global,
     code: &Code,
     buffer: &mut Items,
+    hints: &mut Hints,
     out: &mut O,
 ) -> Result<Option<CEnd>, Trouble>
     ensures comes { Comes (λ w. meaning.step table_rules code.now (state_of run.old w)) (O.held out.old) (O.held out.new) run.new result }
@@ -89,7 +91,17 @@ pub(crate) fn step<O: Sink>(
                 line: *line,
                 goal: placed.goal,
             };
-            operate(run, alloc, code, at, *op, arguments.as_slice(), buffer, out)
+            operate(
+                run,
+                alloc,
+                code,
+                at,
+                *op,
+                arguments.as_slice(),
+                buffer,
+                hints,
+                out,
+            )
         }
         _ => match act(run, alloc, code, placed) {
             Ok(end) => Ok(end),
