@@ -4,6 +4,7 @@ mod Pending
 mod Frames
 mod Reports
 mod Rows
+mod AtOnce
 mod Operations
 mod Marks
 mod Sinks
