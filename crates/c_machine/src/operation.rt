@@ -6,6 +6,7 @@ ghost use Rattle.op_rules.specs.TableRules.{table_rules};
 ghost use Rattle.nu_calls.specs.Surroundings as surroundings;
 ghost use Rattle.nu_calls.specs.Ends as ends;
 ghost use Rattle.op_forms.specs.declared.end.OpEnd.TheVariants as opend;
+ghost use Rattle.op_forms.specs.declared.op.Op.TheVariants as op;
 ghost use Rattle.op_forms.specs.Answers.{after, keeps};
 ghost use Rattle.op_forms.specs.Fits.{fits};
 ghost use Rattle.op_rules.specs.Table.{row};
@@ -120,10 +121,10 @@ fn perform<O: Sink>(
 }
 
 // The function that a call begins, where no more than a look is needed.
-fn asked(alloc: Global, world: &World, op: Op, args: &[Value]) -> Result<Option<OpEnd>, AllocError>
-    ensures { IfOk result (λ found. IfSome found (λ e. row op world.now args.now ≡ keeps world.now.heap e)) }
+fn called(alloc: Global, world: &World, values: &[Value]) -> Result<Option<OpEnd>, AllocError>
+    ensures { IfOk result (λ found. IfSome found (λ e. row op.Call world.now values.now ≡ keeps world.now.heap e)) }
 {
-    let (Op::Call, [function, args @ ..]) = (op, args) else {
+    let [function, args @ ..] = values else {
         return Ok(None);
     };
     match quick_call(alloc, world, function, args)? {
@@ -137,13 +138,28 @@ fn asked(alloc: Global, world: &World, op: Op, args: &[Value]) -> Result<Option<
     }
 }
 
+// How an operation ends that keeps the world, where no more than a look is needed.
+fn looked_at(
+    alloc: Global,
+    op: Op,
+    world: &World,
+    values: &[Value],
+) -> Result<Option<OpEnd>, AllocError>
+    ensures { IfOk result (λ found. IfSome found (λ e. row op world.now values.now ≡ keeps world.now.heap e)) }
+{
+    match op {
+        Op::Call => called(alloc, world, values),
+        _ => Ok(None),
+    }
+}
+
 // What the table does to arguments that fit.
 fn applied(alloc: Global, op: Op, world: &mut World, args: &[Value]) -> Result<OpEnd, AllocError>
     requires fit { fits op world.old args.now ≡ true }
     ensures end { IfOk result (λ e. e ≡ (row op world.old args.now).end) }
     ensures world { OnOk result (world.new ≡ after world.old (row op world.old args.now)) }
 {
-    match asked(alloc, world, op, args)? {
+    match looked_at(alloc, op, world, args)? {
         Some(end) => Ok(end),
         None => apply(alloc, op, world, args),
     }
