@@ -7,6 +7,7 @@ mod Inputs
 mod Links
 mod Progress
 pub mod Told
+mod AtOnce
 mod Operations
 mod Marks
 mod Sinks

@@ -77,7 +77,7 @@ stretch_on p n a b c la lb lc s t x y going beyond h one printed rest follows =
     let here : stands a (over printed (la.left ++ (s ++ (t ++ rest)))) ≡ stands a (over printed (la.left ++ ((s ++ t) ++ rest))) = ap (λ l. stands a (over printed (la.left ++ l))) (sym (append_assoc s t rest)) in
     subst (λ z. Leads (step table_rules p) printed_in (n + 1) (n + 1) z (stands c (over (printed ++ (x ++ y)) (lc.left ++ rest)))) here
     (subst (Leads (step table_rules p) printed_in (n + 1) (n + 1) (stands a (over printed (la.left ++ (s ++ (t ++ rest)))))) there
-     (leads_on (step table_rules p) printed_in n 1 n 1 _ _ _ (h printed (t ++ rest) (follows_more lb lc t rest beyond follows)) next))
+    (leads_on (step table_rules p) printed_in n 1 n 1 _ _ _ (h printed (t ++ rest) (follows_more lb lc t rest beyond follows)) next))
 
 -- after the end, more steps change nothing
 pub stretch_end : (p : Code) (n m t : ℕ) (a b : Standing) (la lb : Buffer) (s x : List ℕ) (e : End) → n ≤ m → b.end ≡ Some e → Stretch p n t a b la lb s x → Stretch p m t a b la lb s x

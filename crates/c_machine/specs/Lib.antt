@@ -1,4 +1,5 @@
 pub mod Values
+pub mod Quick
 pub mod Light
 pub mod Starting
 pub mod Effects

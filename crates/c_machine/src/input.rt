@@ -23,11 +23,7 @@ use std::alloc::Global;
 
 // The next line. Input is taken until it stands whole among the bytes that were taken before.
 #[inline(never)]
-fn take_line<I: Source>(
-    lines: &mut Buffer,
-    alloc: Global,
-    input: &mut I,
-) -> Result<Line, Trouble>
+fn take_line<I: Source>(lines: &mut Buffer, alloc: Global, input: &mut I) -> Result<Line, Trouble>
     ensures line { (took : Took input.old input.new (I.left input.old) (I.left input.new) lines.old lines.new) × Lined lines.old lines.new took.taken result }
     ensures count { CountsInput (I.faults input.old) (I.faults input.new) result }
 {

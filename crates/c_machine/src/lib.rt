@@ -10,10 +10,12 @@
 mod calls;
 mod ending;
 mod generators;
+mod hints;
 mod input;
 mod machine;
 mod operation;
 mod placing;
+mod quick;
 mod raises;
 mod report;
 mod starting;

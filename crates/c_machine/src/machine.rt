@@ -13,6 +13,7 @@ ghost use Rattle.c_machine.specs.Machines.{IsFresh, answer_at_rest};
 ghost use Rattle.c_machine.specs.Calls.{CountsCall, CountsInput, GaveUp, Ran, answer_by, Takes, TakesLine, counted};
 
 use crate::ending::{Stepped, Trouble};
+use crate::hints::Hints;
 use crate::starting::{begin_first, code_of};
 use crate::step::step;
 use c_input::Buffer;
@@ -36,6 +37,7 @@ pub struct Machine {
     failed: bool,
     // The arguments of an operation; only its room is kept.
     buffer: Items,
+    hints: Hints,
 }
 
 impl Model for Machine {
@@ -55,6 +57,11 @@ pub fn start(alloc: Global, program: CProgram) -> Result<Machine, Memory>
         drop(code);
         return Err(Memory);
     };
+    let Ok(hints) = Hints::new(alloc) else {
+        drop(execution);
+        drop(code);
+        return Err(Memory);
+    };
     let Ok(end) = begin_first(&mut execution, alloc, &code) else {
         drop(execution);
         drop(code);
@@ -69,6 +76,7 @@ pub fn start(alloc: Global, program: CProgram) -> Result<Machine, Memory>
         steps: 0,
         failed: false,
         buffer: Items::new(alloc),
+        hints,
     })
 }
 
@@ -119,6 +127,7 @@ impl Machine {
             self.alloc,
             &self.code,
             &mut self.buffer,
+            &mut self.hints,
             &mut self.lines,
             input,
             out,

@@ -6,6 +6,10 @@ ghost use Rattle.op_rules.specs.TableRules.{table_rules};
 ghost use Rattle.nu_calls.specs.Surroundings as surroundings;
 ghost use Rattle.nu_calls.specs.Ends as ends;
 ghost use Rattle.op_forms.specs.declared.end.OpEnd.TheVariants as opend;
+ghost use Rattle.op_forms.specs.declared.op.Op.TheVariants as op;
+ghost use Rattle.op_forms.specs.Answers.{after, keeps};
+ghost use Rattle.op_forms.specs.Fits.{fits};
+ghost use Rattle.op_rules.specs.Table.{row};
 ghost use Rattle.c_meaning.specs.Step as meaning;
 ghost use Rattle.c_ends.specs.Outcomes.{is_quiet};
 ghost use Rattle.c_stack.specs.Frames.{site};
@@ -17,15 +21,17 @@ ghost use Rattle.c_machine.specs.Values.{some_if};
 
 use crate::calls::begin;
 use crate::ending::Trouble;
+use crate::hints::{Hints, seat};
 use crate::input::read_line;
+use crate::quick::at_once;
 use c_ends::begun;
 use c_input::Buffer;
 use c_meaning::{Argument, CEnd, Code};
 use c_stack::{Execution, Site, held};
 use nu_base::{PutTrouble, Sink, Source};
-use nu_value::{Items, Slots, Value};
-use op_forms::{Op, OpEnd};
-use runtime_table::{apply, fits};
+use nu_value::{Items, Names, Slots, Value};
+use op_forms::{After, Op, OpEnd, World};
+use runtime_table::{apply, fits, quick_call};
 use std::alloc::{AllocError, Global};
 
 fn argument_value(registers: &Slots, argument: &Argument) -> Result<Option<Value>, AllocError>
@@ -118,6 +124,51 @@ fn perform<I: Source, O: Sink>(
     }
 }
 
+// The function that a call begins, where no more than a look is needed.
+fn called(alloc: Global, world: &World, values: &[Value]) -> Result<Option<OpEnd>, AllocError>
+    ensures { IfOk result (λ found. IfSome found (λ e. row op.Call world.now values.now ≡ keeps world.now.heap e)) }
+{
+    let [function, args @ ..] = values else {
+        return Ok(None);
+    };
+    match quick_call(alloc, world, function, args)? {
+        Some((number, given)) => Ok(Some(OpEnd::Ask(
+            number,
+            given,
+            Names::new(alloc),
+            After::Plain,
+        ))),
+        None => Ok(None),
+    }
+}
+
+// How an operation ends that keeps the world, where no more than a look is needed.
+fn looked_at(
+    alloc: Global,
+    op: Op,
+    world: &World,
+    values: &[Value],
+) -> Result<Option<OpEnd>, AllocError>
+    ensures { IfOk result (λ found. IfSome found (λ e. row op world.now values.now ≡ keeps world.now.heap e)) }
+{
+    match op {
+        Op::Call => called(alloc, world, values),
+        _ => Ok(None),
+    }
+}
+
+// What the table does to arguments that fit.
+fn applied(alloc: Global, op: Op, world: &mut World, args: &[Value]) -> Result<OpEnd, AllocError>
+    requires fit { fits op world.old args.now ≡ true }
+    ensures end { IfOk result (λ e. e ≡ (row op world.old args.now).end) }
+    ensures world { OnOk result (world.new ≡ after world.old (row op world.old args.now)) }
+{
+    match looked_at(alloc, op, world, args)? {
+        Some(end) => Ok(end),
+        None => apply(alloc, op, world, args),
+    }
+}
+
 // How the table answers, if all arguments have values that fit.
 fn prepare(
     run: &mut Execution,
@@ -135,12 +186,12 @@ fn prepare(
     if !fits(op, &run.world, buffer.as_slice()) {
         return Ok(None);
     }
-    Ok(Some(apply(alloc, op, &mut run.world, buffer.as_slice())?))
+    Ok(Some(applied(alloc, op, &mut run.world, buffer.as_slice())?))
 }
 
-/// An operation. The buffer is for its arguments.
+// An operation by the table. The buffer is for its arguments.
 #[inline(never)]
-pub(crate) fn operate<I: Source, O: Sink>(
+fn by_table<I: Source, O: Sink>(
     run: &mut Execution,
     alloc: Global,
     code: &Code,
@@ -161,5 +212,41 @@ pub(crate) fn operate<I: Source, O: Sink>(
         Ok(Some(end)) => perform(run, alloc, code, at, end, lines, input, out),
         Ok(None) => Ok(run.undefined()),
         Err(_) => Err(Trouble::Memory),
+    }
+}
+
+/// An operation. The buffer is for its arguments.
+#[inline]
+pub(crate) fn operate<I: Source, O: Sink>(
+    run: &mut Execution,
+    alloc: Global,
+    code: &Code,
+    at: Site,
+    op: Op,
+    arguments: &[Argument],
+    buffer: &mut Items,
+    hints: &mut Hints,
+    lines: &mut Buffer,
+    input: &mut I,
+    out: &mut O,
+) -> Result<Option<CEnd>, Trouble>
+    requires small { run.old.running.place + 1 < 2 ^ 64 }
+    ensures steps { Steps (answers_line (answered run.old.world op (meaning.values run.old.running.registers arguments.now))) (λ w. meaning.operates table_rules code.now (state_of run.old w) (site at) op (meaning.values run.old.running.registers arguments.now)) input.old input.new out.old out.new (I.left input.old) (I.left input.new) (O.held out.old) (O.held out.new) lines.old lines.new run.new result }
+    ensures count { CountsCall (O.faults out.old) (O.faults out.new) result }
+    ensures input_count { CountsInput (I.faults input.old) (I.faults input.new) result }
+{
+    let seat = seat(run.running.function, run.running.place);
+    match at_once(
+        &mut run.world,
+        &run.running.registers,
+        op,
+        arguments,
+        seat,
+        hints,
+    ) {
+        Some(value) => Ok(run.store(at.to, Some(value))),
+        None => by_table(
+            run, alloc, code, at, op, arguments, buffer, lines, input, out,
+        ),
     }
 }

@@ -12,6 +12,7 @@ ghost use Rattle.c_machine.specs.Values.{is_operation};
 use crate::calls::{end_body, fail, give};
 use crate::ending::Trouble;
 use crate::generators::{pause, receive};
+use crate::hints::Hints;
 use crate::operation::operate;
 use c_ends::BodyEnd;
 use c_input::Buffer;
@@ -61,12 +62,13 @@ fn act(
     }
 }
 
-/// Takes a step: the next statement. The buffer is for arguments.
+/// Takes a step: the next statement. The buffer is for arguments, and the hints are for names.
 pub(crate) fn step<I: Source, O: Sink>(
     run: &mut Execution,
     alloc: Global,
     code: &Code,
     buffer: &mut Items,
+    hints: &mut Hints,
     lines: &mut Buffer,
     input: &mut I,
     out: &mut O,
@@ -94,9 +96,18 @@ pub(crate) fn step<I: Source, O: Sink>(
                 line: *line,
                 goal: placed.goal,
             };
-            let arguments = arguments.as_slice();
             operate(
-                run, alloc, code, at, *op, arguments, buffer, lines, input, out,
+                run,
+                alloc,
+                code,
+                at,
+                *op,
+                arguments.as_slice(),
+                buffer,
+                hints,
+                lines,
+                input,
+                out,
             )
         }
         _ => match act(run, alloc, code, placed) {
