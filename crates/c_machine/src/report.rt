@@ -2,8 +2,6 @@
 
 ghost use Rattle.std.specs.Prelude.{◌≡◌, ◌++◌, ◌∷◌, [], IfOk, IsOk, slice_get, false, true};
 ghost use Rattle.op_rules.specs.TableRules.{table_rules};
-ghost use Rattle.op_rules.specs.Binding as binding;
-ghost use Rattle.op_forms.specs.Doing.{DidIn};
 ghost use Rattle.nu_calls.specs.Scripts.{report_function};
 ghost use Rattle.nu_calls.specs.Traceback as traceback;
 ghost use Rattle.c_meaning.specs.declared.code.Code as code;
@@ -17,9 +15,10 @@ use crate::traceback::head_text;
 use c_ends::{Begun, BodyEnd, Outcome, begun, call_ended};
 use c_meaning::{CEnd, Code, Purpose, Uncaught};
 use c_stack::Execution;
-use nu_run::{StopKind, Text};
+use nu_run::Text;
 use nu_value::{Items, Object, Slots, Value};
-use op_forms::{After, OpEnd, World};
+use op_forms::{After, World};
+use runtime_table::bind;
 use std::alloc::{AllocError, Global};
 use std::mem;
 
@@ -69,18 +68,6 @@ fn report_number(world: &World) -> Option<u64>
         Some(Object::Function { .. }) => Some(*number),
         _ => None,
     }
-}
-
-// A function of the program is bound to positional arguments. None is bound yet.
-fn bind(
-    _world: &mut World,
-    _function: u64,
-    _args: Items,
-    _after: After,
-) -> Result<OpEnd, AllocError>
-    ensures { IfOk result (λ e. DidIn (binding.bind _world.old _function _args [] _after) _world.old _world.new e) }
-{
-    Ok(OpEnd::Stop(StopKind::Unbuilt))
 }
 
 /// The module of this number begins.
@@ -161,7 +148,7 @@ fn ask_report(
 {
     let mut args = Items::new(alloc);
     args.push(Value::Obj(uncaught.exception))?;
-    let end = bind(&mut run.world, report, args, After::Plain)?;
+    let end = bind(alloc, &mut run.world, report, args.as_slice(), After::Plain)?;
     let begun = begun(alloc, code.scripts, &mut run.world, false, end)?;
     begin_report(run, alloc, code, uncaught, begun)
 }

@@ -11,8 +11,8 @@ pub returns : goal.returns
 returns c =
     let x = c.args.run.now in
     let args : c.push.new.self ≡ value.Obj c.args.uncaught.exception ∷ [] = search rules in
-    let did : DidIn (bind x.world c.args.report (value.Obj c.args.uncaught.exception ∷ []) [] after.Plain) x.world c.bind.new._world c.in_ok-end.end =
-    subst (λ l. DidIn (bind x.world c.args.report l [] after.Plain) x.world c.bind.new._world c.in_ok-end.end) args c.in_ok-end.ensures in
+    let did : DidIn (bind x.world c.args.report (value.Obj c.args.uncaught.exception ∷ []) [] after.Plain) x.world c.bind.new.world c.in_ok-end.end =
+    subst (λ l. DidIn (bind x.world c.args.report l [] after.Plain) x.world c.bind.new.world c.in_ok-end.end) args (c.in_ok-end.ensures.end, c.in_ok-end.ensures.world) in
     IfOk-weaker c.begin_report.result _ _
-    (λ e go. λ w. report_asked c.args.code.now x c.bind.new._world c.begun.new.world w c.args.uncaught c.args.report c.in_ok-end.end c.in_ok-begun.begun _ c.requires did c.in_ok-begun.ensures (go w))
+    (λ e go. λ w. report_asked c.args.code.now x c.bind.new.world c.begun.new.world w c.args.uncaught c.args.report c.in_ok-end.end c.in_ok-begun.begun _ c.requires did c.in_ok-begun.ensures (go w))
     c.begin_report.ensures
