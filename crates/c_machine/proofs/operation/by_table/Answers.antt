@@ -5,7 +5,7 @@ use Rattle.c_stack.specs.Frames.{site}
 use Rattle.c_stack.specs.Standing.{state_of}
 use Rattle.c_machine.specs.Effects.{answered}
 use Rattle.c_machine.proofs.Operations.{prepared, prepared_line, unprepared, unprepared_line}
-use Rattle.c_machine.proofs.Taking.{steps_quiet, steps_same, steps_short, taken_quietly}
+use Rattle.c_machine.proofs.Taking.{steps_same, steps_short, taken_quietly}
 use Rattle.c_machine.proofs.operation.by_table.Goals as goal
 
 pub returns-in-Ok-Some-clause-steps : goal.returns-in-Ok-Some-clause-steps
@@ -24,7 +24,7 @@ returns-in-Ok-None-clause-steps g c =
     let end = sym c.in-Ok-None.field-0-is ∙ c.in-Ok-None.ensures.end in
     steps_same false _ _ _ _ _ _ _ _ _ _ _ _ _ _ _ (sym (unprepared_line (answered x.world c.args.op args) end)) (λ w. refl)
     (steps_quiet _ _ _ _ _ _ _ _ _ _
-    (taken_quietly _ _ _ _ (λ w. sym (unprepared c.args.code.now x c.prepare.new.run c.args.at w c.args.op args c.in-Ok-None.ensures.world end) ∙ c.undefined.ensures w)))
+    (taken_quietly _ _ _ _ (λ w. sym (unprepared c.args.code.now x c.prepare.new.run c.args.at w c.args.op args c.in-Ok-None.ensures.world end) ∙ c.undefined.ensures w))))
 
 pub returns-in-Err-clause-steps : goal.returns-in-Err-clause-steps
 returns-in-Err-clause-steps g c = steps_short _ _ _ _ _ _ _ _
