@@ -80,3 +80,8 @@ other_asks x other h = refl
 pub quiet_line : (e : OpEnd) → is_quiet e ≡ true → is_line e ≡ false
 quiet_line opend.Line h = absurd (cc)
 quiet_line other h = refl
+
+-- every end but the question for a line asks for none
+pub other_line : (e : OpEnd) → (e ≡ opend.Line → ⊥) → false ≡ is_line e
+other_line opend.Line h = absurd (h refl)
+other_line other h = refl

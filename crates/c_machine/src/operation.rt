@@ -1,6 +1,6 @@
 //! Operations: their arguments, the table, and what their ends do.
 
-ghost use Rattle.std.specs.Prelude.{◌≡◌, ◌+◌, ◌<◌, ◌^◌, IfOk, OnOk, true};
+ghost use Rattle.std.specs.Prelude.{◌≡◌, ◌+◌, ◌<◌, ◌^◌, IfOk, OnOk, true, IfSome};
 ghost use Rattle.std.specs.Option.{option_map};
 ghost use Rattle.op_rules.specs.TableRules.{table_rules};
 ghost use Rattle.nu_calls.specs.Surroundings as surroundings;

@@ -23,8 +23,7 @@ returns-in-Ok-None-clause-steps g c =
     let args = meaning.values x.running.registers c.args.arguments.now in
     let end = sym c.in-Ok-None.field-0-is ∙ c.in-Ok-None.ensures.end in
     steps_same false _ _ _ _ _ _ _ _ _ _ _ _ _ _ _ (sym (unprepared_line (answered x.world c.args.op args) end)) (λ w. refl)
-    (steps_quiet _ _ _ _ _ _ _ _ _ _
-    (taken_quietly _ _ _ _ (λ w. sym (unprepared c.args.code.now x c.prepare.new.run c.args.at w c.args.op args c.in-Ok-None.ensures.world end) ∙ c.undefined.ensures w))))
+    (refl, refl, taken_quietly _ _ _ _ (λ w. sym (unprepared c.args.code.now x c.prepare.new.run c.args.at w c.args.op args c.in-Ok-None.ensures.world end) ∙ c.undefined.ensures w))
 
 pub returns-in-Err-clause-steps : goal.returns-in-Err-clause-steps
 returns-in-Err-clause-steps g c = steps_short _ _ _ _ _ _ _ _

@@ -79,7 +79,7 @@ loop-taken-preserved g c =
           let x = c.loop-taken.self.standing.execution in
           let all = before.light light in
           let one = light c.loop-taken.taken x all.0 c.loop-taken-test.true (λ w. all.1 w ∙ stands_going c.loop-taken.self.standing (printing w all.0) going) in
-          let quiet : asks c.loop-taken.self.code x ≡ false = light_asks _ x (subst (λ k. is_light x (placed_at k x.running) ≡ true) (sym before.code) one) in
+          let quiet : asks c.loop-taken.self.code x ≡ false = light_asks c.loop-taken.self.code x (subst (λ k. is_light x (placed_at k x.running) ≡ true) (sym before.code) one) in
           let step_is = said.takes before.works quiet in
           (all.0 ++ step_is.piece, light_on c.args.self.now.code c.loop-taken.taken _ _ _ all.0 step_is.piece going all.1 (subst (λ k. (w : Outside) → step table_rules k (state_of x w) ≡ stands c.step.new.self.standing (printing w step_is.piece)) before.code step_is.leads));
     }
