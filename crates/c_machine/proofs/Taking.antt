@@ -10,7 +10,9 @@ use Rattle.c_stack.specs.declared.execution.Execution.{Execution}
 use Rattle.c_stack.specs.Standing.{Outside, follows, printing}
 use Rattle.c_input.specs.declared.input.Buffer.{Buffer}
 use Rattle.c_input.proofs.Filling.{filled_none}
-use Rattle.c_machine.specs.Calls.{Comes, IsTaken, Reads, Steps, printed_after}
+use Rattle.c_input.specs.Lines.{Took}
+use Rattle.c_stack.specs.Standing.{Standing}
+use Rattle.c_machine.specs.Calls.{Comes, IsTaken, Reads, Steps, TakesLine, printed_after}
 use Rattle.c_machine.specs.Inputs.{over}
 use Rattle.c_machine.proofs.Sinks.{adds_nothing}
 
@@ -58,3 +60,16 @@ steps_same true false f g i i' o o' left left' held held' lines lines' x r s e h
 pub steps_short : {A B : Type 0} (b : Bool) (f : Outside → Stepped State) (i : A) (o : B) (left held : Option (List ℕ)) (lines : Buffer) (x : Execution) → Steps b f i i o o left left held held lines lines x (Err trouble.Memory)
 steps_short false f i o left held lines x = (refl, refl, refl)
 steps_short true f i o left held lines x = (refl, ((filled_none i left lines).0, tt))
+
+-- a step that asks for a line
+pub steps_asked : {A B : Type 0} (b : Bool) (f : Outside → Stepped State) (i i' : A) (o o' : B) (left left' held held' : Option (List ℕ)) (lines lines' : Buffer) (x : Execution) (r : Result (Option End) Trouble)
+    → b ≡ true → Steps b f i i' o o' left left' held held' lines lines' x r → (o' ≡ o) × ((took : Took i i' left left' lines lines') × Reads f lines lines' took.taken x r)
+steps_asked false f i i' o o' left left' held held' lines lines' x r e h = absurd (cc)
+steps_asked true f i i' o o' left left' held held' lines lines' x r e h = h
+
+-- a trouble is that of the call
+pub line_trouble : (f : Outside → Stepped State) (old new : Buffer) (taken : List ℕ) (x : Execution) (s : Standing) (e : Trouble) → Reads f old new taken x (Err e) → TakesLine f old new taken s (Err e)
+line_trouble f old new taken x s trouble.Memory h = h
+line_trouble f old new taken x s trouble.ReadFault h = h
+line_trouble f old new taken x s trouble.WriteFault h = h
+line_trouble f old new taken x s trouble.Failed h = h
