@@ -1,8 +1,6 @@
 -- Operations that are done at once.
-use Rattle.std.proofs.Common.{◌≡◌, ℕ, List, [], ◌∷◌, Option, Some, None, refl, sym, ap, append-nil, true, false}
+use Rattle.std.proofs.Common.{◌≡◌, List, Option, Some, None, refl, sym, ap, append-nil, false}
 use Rattle.nu_value.specs.declared.value.Value.{Value}
-use Rattle.nu_value.specs.declared.value.Value.TheVariants as value
-use Rattle.op_forms.specs.declared.end.OpEnd.{OpEnd}
 use Rattle.op_forms.specs.declared.end.OpEnd.TheVariants as opend
 use Rattle.op_forms.specs.declared.op.Op.{Op}
 use Rattle.op_forms.specs.declared.world.World.{World}
@@ -11,12 +9,9 @@ use Rattle.op_rules.specs.Table.{row}
 use Rattle.op_rules.specs.TableRules.{table_rules}
 use Rattle.nu_calls.specs.Surroundings.{scene}
 use Rattle.nu_calls.specs.Ends.{begun_by}
-use Rattle.code_forms.specs.declared.operand.Argument.TheVariants as argument
-use Rattle.code_forms.specs.declared.operand.Operand.{Operand}
-use Rattle.runtime_table.specs.Quick.{IsQuick, Leads}
 use Rattle.c_meaning.specs.declared.code.Code.{Code}
 use Rattle.c_meaning.specs.State.{next, put}
-use Rattle.c_meaning.specs.Step.{began, operand_value, operates, stores, values}
+use Rattle.c_meaning.specs.Step.{began, operates, stores}
 use Rattle.c_stack.specs.declared.execution.Execution.{Execution}
 use Rattle.c_stack.specs.declared.frames.Site.{Site}
 use Rattle.c_stack.specs.Frames.{site}

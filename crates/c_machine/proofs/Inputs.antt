@@ -1,5 +1,5 @@
 -- Lines that are read.
-use Rattle.std.proofs.Common.{◌≡◌, ◌⊎◌, inl, inr, List, [], ◌++◌, ℕ, Option, Some, Result, Ok, Err, true, false, refl, sym, ap, subst, ◌∙◌, append_assoc}
+use Rattle.std.proofs.Common.{◌≡◌, ◌⊎◌, inl, inr, List, [], ◌++◌, ℕ, Option, Some, Ok, Err, true, false, sym, ap, subst, ◌∙◌, append_assoc}
 use Rattle.nu_run.specs.declared.End.{End}
 use Rattle.nu_run.specs.declared.End.TheVariants as end
 use Rattle.nu_run.specs.declared.StopKind.TheVariants as stop
@@ -17,7 +17,7 @@ use Rattle.c_meaning.specs.Step.{Site, began, settles, stores}
 use Rattle.c_input.specs.declared.input.Buffer.{Buffer}
 use Rattle.c_input.specs.declared.input.Line.{Line}
 use Rattle.c_input.specs.declared.input.Line.TheVariants as line
-use Rattle.c_input.specs.Lines.{Drained, IsFew, IsNext, Took, is_whole}
+use Rattle.c_input.specs.Lines.{Drained, IsNext, Took, is_whole}
 use Rattle.c_stack.specs.declared.execution.Execution.{Execution}
 use Rattle.c_stack.specs.Standing.{Outside, follows, state_of}
 use Rattle.c_machine.specs.declared.ending.Trouble.{Trouble}

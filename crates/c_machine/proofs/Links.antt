@@ -6,7 +6,7 @@ use Rattle.c_meaning.specs.State.{State}
 use Rattle.c_input.specs.declared.input.Buffer.{Buffer}
 use Rattle.c_input.specs.Lines.{Drained, IsFew, Took, is_whole}
 use Rattle.c_input.proofs.Filling.{drained_none}
-use Rattle.c_stack.specs.Standing.{Outside, Standing, stands, printing}
+use Rattle.c_stack.specs.Standing.{Outside, Standing, stands}
 use Rattle.c_machine.specs.declared.ending.Stepped.{Stepped as Answer}
 use Rattle.c_machine.specs.declared.ending.Trouble.{Trouble}
 use Rattle.c_machine.specs.declared.ending.Trouble.TheVariants as trouble

@@ -1,8 +1,7 @@
 -- How far a run has come.
-use Rattle.std.proofs.Common.{◌≡◌, ◌⊎◌, inl, inr, ℕ, ◌+◌, ◌<◌, ◌≤◌, List, [], ◌++◌, refl, sym, ◌∙◌, ap, subst, arith, append_assoc, append-nil, Bool, false, true, Option, Some, None, Result, Ok, Err}
+use Rattle.std.proofs.Common.{◌≡◌, inl, ℕ, ◌+◌, ◌<◌, List, [], ◌++◌, refl, sym, ◌∙◌, ap, subst, arith, append_assoc, Bool, false, true, Option, Some, None, Result, Ok, Err}
 use Rattle.nu_base.specs.Outside.{Adds}
 use Rattle.nu_run.specs.declared.End.{End}
-use Rattle.nu_run.specs.Runs.{IsPrefix}
 use Rattle.nu_run.specs.Steps.{Stepped}
 use Rattle.op_rules.specs.TableRules.{table_rules}
 use Rattle.c_meaning.specs.declared.code.Code.{Code}
@@ -27,7 +26,7 @@ use Rattle.c_machine.specs.declared.ending.Stepped.TheVariants as answer
 use Rattle.c_machine.specs.declared.ending.Trouble.{Trouble}
 use Rattle.c_machine.specs.declared.ending.Trouble.TheVariants as trouble
 use Rattle.c_machine.specs.Calls.{GaveUp, Ran, Runs, Takes, TakesLine, counted}
-use Rattle.c_machine.specs.Inputs.{Follows, LastAsk, asks, over, placed_asks, statement_asks, store_asks}
+use Rattle.c_machine.specs.Inputs.{asks, over, placed_asks, statement_asks, store_asks}
 use Rattle.c_machine.specs.Machines.{Seen, run_from}
 use Rattle.c_machine.proofs.Links.{Link, Outcome, link}
 use Rattle.c_machine.proofs.Sinks.{adds_nothing, adds_more}

@@ -1,6 +1,5 @@
 -- Runs over an input that tells its bytes.
-use Rattle.std.proofs.Common.{◌≡◌, List, [], ◌++◌, ℕ, Option, Some, None, Result, true, false, refl, sym, ap, subst, ◌∙◌}
-use Rattle.c_input.specs.Lines.{Empties, IsEmpty}
+use Rattle.std.proofs.Common.{◌≡◌, List, [], ◌++◌, ℕ, Option, Some, Result, true, false, sym, ap, subst, ◌∙◌}
 use Rattle.c_machine.specs.declared.ending.Stepped.{Stepped as Answer}
 use Rattle.c_machine.specs.declared.ending.Trouble.{Trouble}
 use Rattle.c_machine.specs.Calls.{Ran, Runs}

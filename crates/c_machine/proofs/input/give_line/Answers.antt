@@ -1,5 +1,5 @@
 use Rattle.c_stack.specs.Frames.{site}
-use Rattle.c_machine.proofs.Inputs.{bad_given, none_given, text_given}
+use Rattle.c_machine.proofs.Inputs.{none_given}
 use Rattle.c_machine.proofs.input.give_line.Goals as goal
 
 pub returns-in-None : goal.returns-in-None

@@ -3,9 +3,6 @@ use Rattle.op_rules.specs.TableRules.{table_rules}
 use Rattle.c_meaning.specs.declared.program.Stored.TheVariants as stored
 use Rattle.c_meaning.specs.Step as meaning
 use Rattle.c_stack.specs.Standing.{state_of}
-use Rattle.c_machine.specs.Calls.{Steps}
-use Rattle.c_machine.specs.Effects.{answered}
-use Rattle.c_machine.specs.Inputs.{answers_line}
 use Rattle.c_machine.specs.Values.{is_operation}
 use Rattle.c_machine.proofs.Operations.{other_asks}
 use Rattle.c_machine.proofs.Taking.{steps_same, steps_short, taken_quietly}

@@ -1,4 +1,4 @@
-use Rattle.std.proofs.Common.{◌≡◌, ◌<◌, ◌≤◌, length, take, rules}
+use Rattle.std.proofs.Common.{◌<◌, length, rules}
 use Rattle.c_input.proofs.Filling.{filled_end, filled_fault, filled_take}
 use Rattle.c_input.proofs.input.Buffer.fetch.Goals as goal
 

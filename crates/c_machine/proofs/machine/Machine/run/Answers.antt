@@ -1,4 +1,4 @@
-use Rattle.std.proofs.Common.{◌≡◌, ◌+◌, [], ◌++◌, refl, sym, ◌∙◌, ap, subst, arith, rules, append-nil, None, Ok, Err, IsOk, true, false}
+use Rattle.std.proofs.Common.{◌≡◌, [], ◌++◌, refl, sym, ◌∙◌, ap, subst, arith, rules, append-nil, None, Ok, Err, IsOk, true, false}
 use Rattle.c_meaning.specs.Step.{placed_at, step}
 use Rattle.op_rules.specs.TableRules.{table_rules}
 use Rattle.c_stack.specs.Standing.{Outside, state_of, stands, printing}
