@@ -10,7 +10,7 @@ use Rattle.nuit_lib.specs.declared.status.Status.{Status}
 use Rattle.nuit_lib.specs.declared.status.Status.TheVariants as status
 use Rattle.nuit_lib.specs.Words.{Command, BuildFile, RunFile, file_of, command_of}
 use Rattle.nuit_lib.specs.Replies.{Reply, BuildReply, RunReply, Ran, status_of, message_of}
-use Rattle.nuit_lib.specs.Ends.{Sunk, Call, Stays, Got, Broke, told_of, Replied, Ends, IsQuiet, AsksForFile, Names, Builds, Runs}
+use Rattle.nuit_lib.specs.Ends.{Stream, Call, Stays, Got, Broke, told_of, Replied, Ends, IsQuiet, AsksForFile, Names, Builds, Runs}
 use Rattle.nuit_lib.specs.Refusals.{OneKind}
 use Rattle.nuit_lib.proofs.Ending.{other}
 use Rattle.nuit_lib.proofs.OneKind.{one_kind}
@@ -147,7 +147,7 @@ builds_of c name told w t bytes answer b e q =
     go a text message d got said = absurd d
 
 -- what a run wrote is its program's
-ran_of : (bytes input : List ℕ) (steps : ℕ) (out err : Sunk) (answer : Status) (text message : List ℕ) → Ran bytes input steps answer text message → Got out text → Got err message → Runs bytes input steps out.before out.after err.before err.after answer
+ran_of : (bytes input : List ℕ) (steps : ℕ) (out err : Stream) (answer : Status) (text message : List ℕ) → Ran bytes input steps answer text message → Got out text → Got err message → Runs bytes input steps out.before out.after err.before err.after answer
 ran_of bytes input steps out err answer text message d got told = record {
   too_large = (λ e. absurd (subst IsRanStatus e (ran_is bytes input steps answer text message d)), λ long. absurd (let short = d.short in omega (arith, long, short)));
   not_c = (λ e. absurd (subst IsRanStatus e (ran_is bytes input steps answer text message d)), λ r. absurd (r.1 d.is_run.program d.is_run.is_text));

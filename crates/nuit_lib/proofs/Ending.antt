@@ -12,16 +12,16 @@ use Rattle.nuit_lib.specs.Codes.{code_of}
 use Rattle.nuit_lib.specs.Asked.{asked}
 use Rattle.nuit_lib.specs.Words.{Command, BuildFile, RunFile, file_of, command_of}
 use Rattle.nuit_lib.specs.Replies.{Reply, BuildReply, RunReply, RunPart, Says, usage_text, too_large_text, status_of}
-use Rattle.nuit_lib.specs.Ends.{Sunk, Call, Stays, Got, told_of, Replied, Due, Wrote, Writes, Nothing, Part, Ends, Performs, Said, limit_of}
+use Rattle.nuit_lib.specs.Ends.{Stream, Call, Stays, Got, told_of, Replied, Due, Wrote, Writes, Nothing, Part, Ends, Performs, Said, limit_of}
 
 adds_nothing : (before after : Option (List ℕ)) → after ≡ before → Adds before after []
 adds_nothing None after e = tt
 adds_nothing (Some bytes) after e = e ∙ ap Some (sym (append-nil bytes))
 
-pub got_nothing : (s : Sunk) → Stays s → Got s []
+pub got_nothing : (s : Stream) → Stays s → Got s []
 got_nothing s h = record { held = adds_nothing s.before s.after h.held; faults = h.faults }
 
-module _ (due : Status → List ℕ → List ℕ → Type 0) (part : List ℕ → Type 0) (out err : Sunk) where
+module _ (due : Status → List ℕ → List ℕ → Type 0) (part : List ℕ → Type 0) (out err : Stream) where
   -- a message that is due ends the call, behind the text that the output got
   pub said_behind : (text message : List ℕ) (wanted answer : Status) → (Wrote due out err wanted → Writes due part out err wanted) → Got out text → part text → due wanted text message → Said err message wanted answer → Writes due part out err answer
   said_behind text message wanted answer k got p d (inl w) =

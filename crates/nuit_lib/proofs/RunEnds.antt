@@ -12,10 +12,10 @@ use Rattle.c_meaning.specs.Run.{c_run}
 use Rattle.nuit_lib.specs.declared.status.Status.{Status}
 use Rattle.nuit_lib.specs.declared.status.Status.TheVariants as status
 use Rattle.nuit_lib.specs.Replies.{RunReply, RunPart, IsRun, Ran, steps_text, status_at, message_at, status_of, message_of}
-use Rattle.nuit_lib.specs.Ends.{Sunk, Stays, Said, Writes}
+use Rattle.nuit_lib.specs.Ends.{Stream, Stays, Said, Writes}
 use Rattle.nuit_lib.proofs.Ending.{said_behind}
 
-module _ (bytes input : List ℕ) (steps : ℕ) (out err : Sunk) (p : program.CProgram) (short : length bytes ≤ 1073741824) (is_text : IsText bytes p) where
+module _ (bytes input : List ℕ) (steps : ℕ) (out err : Stream) (p : program.CProgram) (short : length bytes ≤ 1073741824) (is_text : IsText bytes p) where
   is_run : (r : Run) → r ≡ c_run table_rules p input steps → IsRun bytes input steps r
   is_run r e = record { program = p; is_text = is_text; is = e }
 
