@@ -1,5 +1,5 @@
 -- The input of a machine: what was taken of it.
-use Rattle.std.specs.Prelude.{◌≡◌, ℕ, List, [], ◌++◌, Option, Some, None, Bool, true, ◌||◌, ◌&&◌, not, nat_le, nat_lt, length, Result, Ok, Err, ⊤}
+use Rattle.std.specs.Prelude.{◌≡◌, ◌≤◌, ◌⊎◌, ℕ, List, [], ◌++◌, Option, Some, None, Bool, true, ◌||◌, ◌&&◌, not, nat_le, nat_lt, length, Result, Ok, Err, ⊤}
 use Rattle.std.specs.Str.{is_utf8}
 use Rattle.nu_base.specs.Outside.{Faulted}
 use Rattle.nu_calls.specs.Lines.{NextLine, NoLine, ALine, BadLine, before_lf}
@@ -24,26 +24,40 @@ abbrev pub Empties : Option (List ℕ) → Option (List ℕ) → Type 0
 Empties None new = ⊤
 Empties (Some bytes) new = new ≡ Some []
 
--- what was taken came behind what the buffer had; at the end nothing is left, and behind that nothing is taken
-pub record IsFilled (left left' : Option (List ℕ)) (old new : Buffer) : Type 0 where
-  pub taken : List ℕ
-  pub drains : Drains left left' taken
-  pub grows : new.left ≡ old.left ++ taken
-  pub ended : new.ended ≡ true → (old.ended ≡ true → IsEmpty left) → Empties left left'
-  pub beyond : old.ended ≡ true → (taken ≡ []) × (new.ended ≡ true)
-
--- the count of the input's faults after a call
-abbrev pub CountsIn : {A : Type 0} → ℕ → ℕ → Result A Short → Type 0
-CountsIn old new (Ok answer) = new ≡ old
-CountsIn old new (Err short.Memory) = new ≡ old
-CountsIn old new (Err short.Failed) = Faulted old new
-
 abbrev pub has_lf : List ℕ → Bool
 has_lf bytes = nat_lt (length (before_lf bytes)) (length bytes)
 
 -- what follows these bytes doesn't change what their first line is
 abbrev pub is_whole : List ℕ → Bool
 is_whole bytes = nat_le 1048576 (length bytes) || has_lf bytes
+
+-- at most one take stands behind bytes whose first line isn't whole
+abbrev pub IsFew : List ℕ → Type 0
+IsFew bytes = (front : List ℕ) × (chunk : List ℕ) × (bytes ≡ front ++ chunk) × (is_whole front ≡ false) × (length chunk ≤ 4096)
+
+-- These bytes were taken, the last of them while the line at the front of what was there wasn't whole. Where the end was seen nothing
+-- is left, and behind it nothing is taken.
+pub record Took {A : Type 0} (input input' : A) (left left' : Option (List ℕ)) (old new : Buffer) : Type 0 where
+  pub taken : List ℕ
+  pub drains : Drains left left' taken
+  pub ended : new.ended ≡ true → (old.ended ≡ true → IsEmpty left) → Empties left left'
+  pub beyond : old.ended ≡ true → (taken ≡ []) × (new.ended ≡ true)
+  pub few : ((input' ≡ input) × (taken ≡ [])) ⊎ IsFew (old.left ++ taken)
+
+-- where what was taken stands after a call: behind what the buffer had; after a fault the line isn't whole
+abbrev pub Grows : {A : Type 0} → Buffer → Buffer → List ℕ → Result A Short → Type 0
+Grows old new taken (Ok answer) = new.left ≡ old.left ++ taken
+Grows old new taken (Err short.Memory) = ⊤
+Grows old new taken (Err short.Failed) = (new.left ≡ old.left ++ taken) × (is_whole new.left ≡ false)
+
+abbrev pub Fills : {A B : Type 0} → A → A → Option (List ℕ) → Option (List ℕ) → Buffer → Buffer → Result B Short → Type 0
+Fills input input' left left' old new result = (took : Took input input' left left' old new) × Grows old new took.taken result
+
+-- the count of the input's faults after a call
+abbrev pub CountsIn : {A : Type 0} → ℕ → ℕ → Result A Short → Type 0
+CountsIn old new (Ok answer) = new ≡ old
+CountsIn old new (Err short.Memory) = new ≡ old
+CountsIn old new (Err short.Failed) = Faulted old new
 
 -- bytes that can be a line
 abbrev pub is_good : List ℕ → Bool

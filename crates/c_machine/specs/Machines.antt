@@ -14,12 +14,15 @@ use Rattle.c_machine.specs.declared.ending.Stepped.{Stepped as Answer}
 use Rattle.c_machine.specs.declared.ending.Stepped.TheVariants as answer
 use Rattle.c_machine.specs.declared.ending.Trouble.{Trouble}
 use Rattle.c_machine.specs.declared.ending.Trouble.TheVariants as trouble
+use Rattle.c_input.specs.declared.input.Buffer.{Buffer}
 use Rattle.c_stack.specs.Standing.{Standing, stands}
 
--- the code that it runs, where the run stands, how many steps it took, and whether a call answered a trouble
+-- the code that it runs, where the run stands, what was taken of the input for its next lines, how many steps it took, and whether a
+-- call answered a trouble
 pub record Seen : Type 0 where
   pub code : Code
   pub standing : Standing
+  pub lines : Buffer
   pub steps : ℕ
   pub failed : Bool
 
@@ -41,5 +44,6 @@ pub record IsFresh (m : Seen) (p : program.CProgram) : Type 0 where
   pub holds : m.code ≡ code_of p
   pub first : (input : List ℕ) → stands m.standing (record { printed = []; input = input }) ≡ start table_rules p input
   pub runs : (input : List ℕ) (n : ℕ) → run_from m input n ≡ c_run table_rules p input n
+  pub lines : m.lines ≡ record { left = []; ended = false }
   pub steps : m.steps ≡ 0
   pub works : m.failed ≡ false
