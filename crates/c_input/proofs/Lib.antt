@@ -1,2 +1,2 @@
 mod Lined
-mod Filling
+pub mod Filling

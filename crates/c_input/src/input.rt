@@ -3,7 +3,7 @@
 ghost use Rattle.std.specs.Prelude.{◌≡◌, ◌++◌, ◌<◌, ◌⊎◌, [], IfErr, IfOk, List, MatchOption, OnOk, ℕ, length, false, true};
 ghost use Rattle.nu_calls.specs.Lines as lines;
 ghost use Rattle.c_input.specs.declared.input.Short.TheVariants as short;
-ghost use Rattle.c_input.specs.Lines.{CountsIn, IsFilled, is_good, is_whole, seen};
+ghost use Rattle.c_input.specs.Lines.{CountsIn, Fills, IsNext, is_good, is_whole};
 
 use nu_base::Source;
 use nu_run::Text;
@@ -104,8 +104,9 @@ impl Buffer {
 
     // Takes at most 4,096 bytes more, and remembers the end.
     fn fetch<I: Source>(&mut self, alloc: Global, input: &mut I) -> Result<(), Short>
-        requires { self.old.ended ≡ false }
-        ensures ok { OnOk result (IsFilled (I.left input.old) (I.left input.new) self.old self.new) }
+        requires going { self.old.ended ≡ false }
+        requires part { is_whole self.old.left ≡ false }
+        ensures fills { Fills input.old input.new (I.left input.old) (I.left input.new) self.old self.new result }
         ensures more { OnOk result ((self.new.ended ≡ true) ⊎ (length self.old.left < length self.new.left)) }
         ensures count { CountsIn (I.faults input.old) (I.faults input.new) result }
     {
@@ -121,7 +122,8 @@ impl Buffer {
     }
 
     fn add(&mut self, alloc: Global, bytes: &[u8]) -> Result<(), Short>
-        ensures ok { OnOk result ((self.new.left ≡ self.old.left ++ bytes.now) × (self.new.ended ≡ self.old.ended)) }
+        ensures ok { OnOk result (self.new.left ≡ self.old.left ++ bytes.now) }
+        ensures ended { self.new.ended ≡ self.old.ended }
         ensures short { IfErr result (λ e. e ≡ short.Memory) }
     {
         let Ok(more) = Text::from_slice(alloc, bytes) else {
@@ -133,10 +135,9 @@ impl Buffer {
         }
     }
 
-    /// Takes of the input until the next line stands in it whole, or the input ends.
-    #[tactic(auto, using(crate::proofs::Filling::filled_none))]
+    /// Takes of the input until the next line stands in it whole, or the input ends; nothing where one of both is so already.
     pub fn fill<I: Source>(&mut self, alloc: Global, input: &mut I) -> Result<(), Short>
-        ensures ok { OnOk result (IsFilled (I.left input.old) (I.left input.new) self.old self.new) }
+        ensures fills { Fills input.old input.new (I.left input.old) (I.left input.new) self.old self.new result }
         ensures whole { OnOk result ((self.new.ended ≡ true) ⊎ (is_whole self.new.left ≡ true)) }
         ensures count { CountsIn (I.faults input.old) (I.faults input.new) result }
     {
@@ -149,8 +150,8 @@ impl Buffer {
     /// The next line, which is no longer left.
     #[tactic(auto, using(crate::proofs::Lined::line_none, crate::proofs::Lined::line_bad, crate::proofs::Lined::line_last, crate::proofs::Lined::line_first, crate::proofs::Lined::before_most))]
     pub fn next_line(&mut self, alloc: Global) -> Result<Line, AllocError>
-        ensures line { IfOk result (λ line. (rest : List ℕ) → (is_whole self.old.left ≡ false → rest ≡ []) → lines.line_of (self.old.left ++ rest) ≡ seen line (self.new.left ++ rest)) }
-        ensures ended { OnOk result (self.new.ended ≡ self.old.ended) }
+        ensures line { IfOk result (λ line. (rest : List ℕ) → (is_whole self.old.left ≡ false → rest ≡ []) → IsNext line (self.old.left ++ rest) (self.new.left ++ rest)) }
+        ensures ended { self.new.ended ≡ self.old.ended }
     {
         let bytes = self.left.as_slice();
         if bytes.is_empty() {

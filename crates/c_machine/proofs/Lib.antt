@@ -3,7 +3,10 @@ mod Arguments
 mod Pending
 mod Frames
 mod Reports
-mod Rows
+mod Inputs
+mod Links
+mod Progress
+pub mod Told
 mod Operations
 mod Marks
 mod Sinks

@@ -11,7 +11,7 @@ module _ {S : Type 0} (step : S → Stepped S) (printed : S → List ℕ) where
   gone_end zero out e = refl
   gone_end (suc k) out e = refl
 
-  gone_on : (n m : ℕ) (x : Stepped S) → gone step (n + m) x ≡ gone step m (gone step n x)
+  pub gone_on : (n m : ℕ) (x : Stepped S) → gone step (n + m) x ≡ gone step m (gone step n x)
   gone_on zero m x = ap (λ i. gone step i x) (zero-add m)
   gone_on (suc n) m (More s) = ap (λ i. gone step i (More s)) (more n m) ∙ gone_on n m (step s)
     where

@@ -1,5 +1,5 @@
 -- What calls of a machine do.
-use Rattle.std.specs.Prelude.{◌≡◌, ◌⊎◌, ℕ, zero, suc, ◌+◌, ◌-◌, ◌^◌, ◌<◌, min, List, [], ◌++◌, Option, Some, None, Result, Ok, Err, true, false, ⊤}
+use Rattle.std.specs.Prelude.{◌≡◌, ◌⊎◌, ℕ, zero, suc, ◌+◌, ◌-◌, ◌^◌, ◌<◌, min, List, [], ◌++◌, Option, Some, None, Result, Ok, Err, Bool, true, false, ⊤}
 use Rattle.nu_base.specs.Outside.{Adds, AddsFront, Faulted}
 use Rattle.nu_run.specs.declared.End.{End}
 use Rattle.nu_run.specs.Runs.{Run, Going, Ended, IsPrefix, printed_by}
@@ -13,7 +13,8 @@ use Rattle.c_machine.specs.declared.ending.Stepped.TheVariants as answer
 use Rattle.c_machine.specs.declared.ending.Trouble.{Trouble}
 use Rattle.c_machine.specs.declared.ending.Trouble.TheVariants as trouble
 use Rattle.c_input.specs.declared.input.Buffer.{Buffer}
-use Rattle.c_input.specs.Lines.{Drains, Empties, IsEmpty, is_whole}
+use Rattle.c_input.specs.declared.input.Line.{Line}
+use Rattle.c_input.specs.Lines.{Drained, IsNext, Took, is_whole}
 use Rattle.c_stack.specs.declared.execution.Execution.{Execution}
 use Rattle.c_stack.specs.Standing.{Outside, Standing, follows, stands, printing}
 use Rattle.c_machine.specs.Inputs.{Follows, IsRead, LastAsk, over}
@@ -59,6 +60,14 @@ Comes after held held' new (Err trouble.ReadFault) = ⊥
 Comes after held held' new (Err trouble.WriteFault) = IsCut after held held'
 Comes after held held' new (Err trouble.Failed) = ⊥
 
+-- what came of the question for a line
+abbrev pub Lined : Buffer → Buffer → List ℕ → Result Line Trouble → Type 0
+Lined old new taken (Ok line) = (rest : List ℕ) → Follows new rest → IsNext line (old.left ++ (taken ++ rest)) (new.left ++ rest)
+Lined old new taken (Err trouble.Memory) = ⊤
+Lined old new taken (Err trouble.ReadFault) = is_whole (old.left ++ taken) ≡ false
+Lined old new taken (Err trouble.WriteFault) = ⊥
+Lined old new taken (Err trouble.Failed) = ⊥
+
 -- what came of a step that asks for a line; a fault comes while the line isn't whole
 abbrev pub Reads : (Outside → Stepped State) → Buffer → Buffer → List ℕ → Execution → Result (Option End) Trouble → Type 0
 Reads after old new taken x (Ok end) = IsRead after old new taken x end
@@ -66,6 +75,13 @@ Reads after old new taken x (Err trouble.Memory) = ⊤
 Reads after old new taken x (Err trouble.ReadFault) = is_whole (old.left ++ taken) ≡ false
 Reads after old new taken x (Err trouble.WriteFault) = ⊥
 Reads after old new taken x (Err trouble.Failed) = ⊥
+
+-- What came of a step that asks for a line or for none. One that asks for none leaves the input and what was taken of it, and one
+-- that asks prints nothing.
+abbrev pub Steps : {A B : Type 0} → Bool → (Outside → Stepped State) → A → A → B → B → Option (List ℕ) → Option (List ℕ) → Option (List ℕ) → Option (List ℕ) → Buffer → Buffer → Execution → Result (Option End) Trouble → Type 0
+Steps false after input input' out out' left left' held held' old new x result = (input' ≡ input) × (new ≡ old) × Comes after held held' x result
+Steps true after input input' out out' left left' held held' old new x result =
+    (out' ≡ out) × ((took : Took input input' left left' old new) × Reads after old new took.taken x result)
 
 -- a call that takes one step, which asks for no line
 abbrev pub Takes : (Outside → Stepped State) → Option (List ℕ) → Option (List ℕ) → Standing → Result Answer Trouble → Type 0
@@ -118,9 +134,7 @@ Walks c n taken old new (Err e) =
 -- of it and what was taken, and ends there if its end was seen.
 pub record Ran {A : Type 0} (n : ℕ) (input input' : A) (left left' held held' : Option (List ℕ)) (old new : Seen) (result : Result Answer Trouble) : Type 0 where
   pub taken : List ℕ
-  pub drains : Drains left left' taken
-  pub ended : new.lines.ended ≡ true → (old.lines.ended ≡ true → IsEmpty left) → Empties left left'
-  pub beyond : old.lines.ended ≡ true → (taken ≡ []) × (new.lines.ended ≡ true)
+  pub drained : Drained left left' old.lines new.lines taken
   -- nothing was taken, or the last of it while a step asked for a line that wasn't whole
   pub few : ((input' ≡ input) × (taken ≡ [])) ⊎ LastAsk old.code n old.standing old.lines new.lines taken
   -- the output gets what the run of the program prints within these steps, or after a trouble a front of it

@@ -67,7 +67,7 @@ pub record LastAsk (c : Code) (n : ℕ) (begin : Standing) (old new : Buffer) (t
   pub before : ℕ
   pub within : before < n
   pub asking : Execution
-  pub asks : asks c asking ≡ true
+  pub asked : asks c asking ≡ true
   pub printed : List ℕ
   pub front : List ℕ
   pub chunk : List ℕ

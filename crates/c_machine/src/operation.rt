@@ -1,6 +1,6 @@
 //! Operations: their arguments, the table, and what their ends do.
 
-ghost use Rattle.std.specs.Prelude.{◌≡◌, ◌+◌, ◌<◌, ◌^◌, IfOk, IfSome, OnOk, true};
+ghost use Rattle.std.specs.Prelude.{◌≡◌, ◌+◌, ◌<◌, ◌^◌, IfOk, OnOk, true};
 ghost use Rattle.std.specs.Option.{option_map};
 ghost use Rattle.op_rules.specs.TableRules.{table_rules};
 ghost use Rattle.nu_calls.specs.Surroundings as surroundings;
@@ -10,17 +10,19 @@ ghost use Rattle.c_meaning.specs.Step as meaning;
 ghost use Rattle.c_ends.specs.Outcomes.{is_quiet};
 ghost use Rattle.c_stack.specs.Frames.{site};
 ghost use Rattle.c_stack.specs.Standing.{Outside, state_of, follows};
-ghost use Rattle.c_machine.specs.Calls.{Comes, CountsCall};
+ghost use Rattle.c_machine.specs.Calls.{Comes, CountsCall, CountsInput, Steps};
 ghost use Rattle.c_machine.specs.Effects.{answered, after_answer};
-ghost use Rattle.c_machine.specs.Simple.{IsSimple};
+ghost use Rattle.c_machine.specs.Inputs.{answers_line, is_line};
 ghost use Rattle.c_machine.specs.Values.{some_if};
 
 use crate::calls::begin;
 use crate::ending::Trouble;
+use crate::input::read_line;
 use c_ends::begun;
+use c_input::Buffer;
 use c_meaning::{Argument, CEnd, Code};
 use c_stack::{Execution, Site, held};
-use nu_base::{PutTrouble, Sink};
+use nu_base::{PutTrouble, Sink, Source};
 use nu_value::{Items, Slots, Value};
 use op_forms::{Op, OpEnd};
 use runtime_table::{apply, fits};
@@ -89,24 +91,26 @@ fn begin_by(
     begin(run, alloc, code, at, begun)
 }
 
-// What the end of an operation does; none reads a line yet.
-fn perform<O: Sink>(
+// What the end of an operation does.
+fn perform<I: Source, O: Sink>(
     run: &mut Execution,
     alloc: Global,
     code: &Code,
     at: Site,
     end: OpEnd,
+    lines: &mut Buffer,
+    input: &mut I,
     out: &mut O,
 ) -> Result<Option<CEnd>, Trouble>
     requires small { run.old.running.place + 1 < 2 ^ 64 }
-    requires simple { IsSimple end }
-    ensures comes { Comes (λ w. meaning.began table_rules code.now (state_of run.old w) (site at) (ends.begun code.now.scripts (surroundings.scene (state_of run.old w).around) end)) (O.held out.old) (O.held out.new) run.new result }
+    ensures steps { Steps (is_line end) (λ w. meaning.began table_rules code.now (state_of run.old w) (site at) (ends.begun code.now.scripts (surroundings.scene (state_of run.old w).around) end)) input.old input.new out.old out.new (I.left input.old) (I.left input.new) (O.held out.old) (O.held out.new) lines.old lines.new run.new result }
     ensures count { CountsCall (O.faults out.old) (O.faults out.new) result }
+    ensures input_count { CountsInput (I.faults input.old) (I.faults input.new) result }
 {
     match end {
         OpEnd::Give(value) => Ok(run.store(at.to, Some(value))),
         OpEnd::Put(text) => print(run, code, at, text.as_str(), out),
-        OpEnd::Line => unreachable!(),
+        OpEnd::Line => read_line(run, alloc, code, at, lines, input),
         end => match begin_by(run, alloc, code, at, end) {
             Ok(end) => Ok(end),
             Err(_) => Err(Trouble::Memory),
@@ -115,7 +119,6 @@ fn perform<O: Sink>(
 }
 
 // How the table answers, if all arguments have values that fit.
-#[tactic(auto, using(crate::proofs::Rows::row_simple))]
 fn prepare(
     run: &mut Execution,
     alloc: Global,
@@ -125,7 +128,6 @@ fn prepare(
 ) -> Result<Option<OpEnd>, AllocError>
     ensures end { IfOk result (λ end. end ≡ option_map (λ a. a.end) (answered run.old.world op (meaning.values run.old.running.registers arguments.now))) }
     ensures world { OnOk result (run.new ≡ record run.old { world = after_answer run.old.world (answered run.old.world op (meaning.values run.old.running.registers arguments.now)) }) }
-    ensures simple { IfOk result (λ end. IfSome end (λ e. IsSimple e)) }
 {
     if !values(&run.running.registers, arguments, buffer)? {
         return Ok(None);
@@ -138,7 +140,7 @@ fn prepare(
 
 /// An operation. The buffer is for its arguments.
 #[inline(never)]
-pub(crate) fn operate<O: Sink>(
+pub(crate) fn operate<I: Source, O: Sink>(
     run: &mut Execution,
     alloc: Global,
     code: &Code,
@@ -146,14 +148,17 @@ pub(crate) fn operate<O: Sink>(
     op: Op,
     arguments: &[Argument],
     buffer: &mut Items,
+    lines: &mut Buffer,
+    input: &mut I,
     out: &mut O,
 ) -> Result<Option<CEnd>, Trouble>
     requires small { run.old.running.place + 1 < 2 ^ 64 }
-    ensures comes { Comes (λ w. meaning.operates table_rules code.now (state_of run.old w) (site at) op (meaning.values run.old.running.registers arguments.now)) (O.held out.old) (O.held out.new) run.new result }
+    ensures steps { Steps (answers_line (answered run.old.world op (meaning.values run.old.running.registers arguments.now))) (λ w. meaning.operates table_rules code.now (state_of run.old w) (site at) op (meaning.values run.old.running.registers arguments.now)) input.old input.new out.old out.new (I.left input.old) (I.left input.new) (O.held out.old) (O.held out.new) lines.old lines.new run.new result }
     ensures count { CountsCall (O.faults out.old) (O.faults out.new) result }
+    ensures input_count { CountsInput (I.faults input.old) (I.faults input.new) result }
 {
     match prepare(run, alloc, op, arguments, buffer) {
-        Ok(Some(end)) => perform(run, alloc, code, at, end, out),
+        Ok(Some(end)) => perform(run, alloc, code, at, end, lines, input, out),
         Ok(None) => Ok(run.undefined()),
         Err(_) => Err(Trouble::Memory),
     }

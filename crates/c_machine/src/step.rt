@@ -4,7 +4,8 @@ ghost use Rattle.std.specs.Prelude.{◌≡◌, ◌+◌, ◌<◌, ◌^◌, IfOk, 
 ghost use Rattle.op_rules.specs.TableRules.{table_rules};
 ghost use Rattle.c_meaning.specs.Step as meaning;
 ghost use Rattle.c_stack.specs.Standing.{Outside, state_of, follows};
-ghost use Rattle.c_machine.specs.Calls.{Comes, CountsCall};
+ghost use Rattle.c_machine.specs.Calls.{CountsCall, CountsInput, Steps};
+ghost use Rattle.c_machine.specs.Inputs.{asks};
 ghost use Rattle.c_machine.specs.Light.{is_light, is_light_statement};
 ghost use Rattle.c_machine.specs.Values.{is_operation};
 
@@ -13,9 +14,10 @@ use crate::ending::Trouble;
 use crate::generators::{pause, receive};
 use crate::operation::operate;
 use c_ends::BodyEnd;
+use c_input::Buffer;
 use c_meaning::{CEnd, Code, Placed, Statement, Stored};
 use c_stack::{Execution, Site, held};
-use nu_base::Sink;
+use nu_base::{Sink, Source};
 use nu_value::{Items, Value};
 use std::alloc::{AllocError, Global};
 
@@ -60,15 +62,18 @@ fn act(
 }
 
 /// Takes a step: the next statement. The buffer is for arguments.
-pub(crate) fn step<O: Sink>(
+pub(crate) fn step<I: Source, O: Sink>(
     run: &mut Execution,
     alloc: Global,
     code: &Code,
     buffer: &mut Items,
+    lines: &mut Buffer,
+    input: &mut I,
     out: &mut O,
 ) -> Result<Option<CEnd>, Trouble>
-    ensures comes { Comes (λ w. meaning.step table_rules code.now (state_of run.old w)) (O.held out.old) (O.held out.new) run.new result }
+    ensures steps { Steps (asks code.now run.old) (λ w. meaning.step table_rules code.now (state_of run.old w)) input.old input.new out.old out.new (I.left input.old) (I.left input.new) (O.held out.old) (O.held out.new) lines.old lines.new run.new result }
     ensures count { CountsCall (O.faults out.old) (O.faults out.new) result }
+    ensures input_count { CountsInput (I.faults input.old) (I.faults input.new) result }
     ensures sure { is_light run.old (meaning.placed_at code.now run.old.running) ≡ true → IsOk result }
 {
     let Some(placed) = run.statement(code) else {
@@ -89,7 +94,10 @@ pub(crate) fn step<O: Sink>(
                 line: *line,
                 goal: placed.goal,
             };
-            operate(run, alloc, code, at, *op, arguments.as_slice(), buffer, out)
+            let arguments = arguments.as_slice();
+            operate(
+                run, alloc, code, at, *op, arguments, buffer, lines, input, out,
+            )
         }
         _ => match act(run, alloc, code, placed) {
             Ok(end) => Ok(end),
