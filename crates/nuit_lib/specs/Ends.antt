@@ -15,7 +15,8 @@ use Rattle.nuit_lib.specs.Words.{Command, BuildFile, RunFile, file_of, command_o
 use Rattle.nuit_lib.specs.declared.refusal.Kind.{Kind}
 use Rattle.nuit_lib.specs.Scripts.{Accepted}
 use Rattle.nuit_lib.specs.Refusals.{IsRefused, HasKind}
-use Rattle.nuit_lib.specs.Replies.{Reply, RunFront, RunPart, BuildReply, RunReply, StopsShort, Says, IsBuilt, read_fault_text, refused_text, status_of, message_of}
+use Rattle.nuit_lib.specs.Asking.{AsksLast, TakesFew}
+use Rattle.nuit_lib.specs.Replies.{Reply, RunFront, RunPart, BuildReply, RunReply, Says, IsBuilt, read_fault_text, refused_text, status_of, message_of}
 
 -- an input or output before and after a call: what is left of it or what it holds, where it tells that, and its count of faults
 pub record Stream : Type 0 where
@@ -72,11 +73,14 @@ pub record Unread (c : Call) (out err : List ℕ) : Type 0 where
   pub faults : Faulted c.faults c.faults_after
   pub input_stays : Stays c.input
 
--- a run that was broken off where its input failed
-pub record BrokenOff (bytes : List ℕ) (steps : ℕ) (input : Stream) (out err : List ℕ) : Type 0 where
-  pub taken : List ℕ
-  pub drains : Drains input.before input.after taken
-  pub stops : StopsShort bytes taken steps out
+-- a run over this input that was broken off where the input failed: it has printed this where it asks for a line that what was taken
+-- doesn't complete
+pub record BrokenOff (bytes left : List ℕ) (steps : ℕ) (input : Stream) (out err : List ℕ) : Type 0 where
+  pub short : length bytes ≤ 1073741824
+  pub program : program.CProgram
+  pub is_text : IsText bytes program
+  pub front : List ℕ
+  pub last : AsksLast program left steps out front [] input.after
   pub says : err ≡ read_fault_text
   pub faults : Faulted input.faults input.faults_after
 
@@ -87,7 +91,9 @@ pub record Unheard (c : Call) (out err : List ℕ) : Type 0 where
   pub is : command_of c.words ≡ Some (RunFile name steps)
   pub bytes : List ℕ
   pub file : IfSome (told_file c.told name) (λ told. told ≡ Some bytes)
-  pub broken : BrokenOff bytes steps c.input out err
+  pub left : List ℕ
+  pub given : IfSome c.input.before (λ told. told ≡ left)
+  pub broken : BrokenOff bytes left steps c.input out err
   pub faults : c.faults_after ≡ c.faults
 
 -- what a call was to write, with its status
@@ -152,7 +158,7 @@ limit_of (verb.Run steps) = 1073741824
 
 -- what a run over this input was to write, with its status
 abbrev pub RunDue : List ℕ → List ℕ → ℕ → Stream → Status → List ℕ → List ℕ → Type 0
-RunDue bytes left steps input status.ReadFault out err = BrokenOff bytes steps input out err
+RunDue bytes left steps input status.ReadFault out err = BrokenOff bytes left steps input out err
 RunDue bytes left steps input answer out err = RunReply bytes left steps answer out err × (input.faults_after ≡ input.faults)
 
 -- how running a file of these bytes ends, over the input that is told, or some input
@@ -195,6 +201,10 @@ AsksForFile command answer = ⊤
 -- what is left of an input is a rest of what was told
 abbrev pub TakesFront : Option (List ℕ) → Option (List ℕ) → Type 0
 TakesFront before after = (taken : List ℕ) × Drains before after taken
+
+-- What the run of a file of these bytes takes of a told input.
+abbrev pub RunTakes : {A : Type 0} → List ℕ → ℕ → A → A → Option (List ℕ) → Option (List ℕ) → Type 0
+RunTakes bytes steps old new before after = (left : List ℕ) (p : program.CProgram) → before ≡ Some left → IsText bytes p → TakesFew p left steps old new after
 
 -- the commands that take input
 abbrev pub takes_input : Option Command → Bool

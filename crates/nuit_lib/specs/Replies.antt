@@ -135,16 +135,6 @@ pub record RunFront (bytes input : List ℕ) (steps : ℕ) (text : List ℕ) : T
 abbrev pub RunPart : List ℕ → List ℕ → ℕ → List ℕ → Type 0
 RunPart bytes input steps text = (text ≡ []) ⊎ RunFront bytes input steps text
 
--- a run that these bytes of the input don't bring further: whatever stands behind them, it has printed this after so many steps, fewer
--- than its bound
-pub record StopsShort (bytes taken : List ℕ) (steps : ℕ) (text : List ℕ) : Type 0 where
-  pub short : length bytes ≤ 1073741824
-  pub program : program.CProgram
-  pub is_text : IsText bytes program
-  pub gone : ℕ
-  pub fewer : gone < steps
-  pub printed : (rest : List ℕ) → c_run table_rules program (taken ++ rest) gone ≡ Going text
-
 -- running a file of these bytes over an input
 abbrev pub RunReply : List ℕ → List ℕ → ℕ → Status → List ℕ → List ℕ → Type 0
 RunReply bytes input steps status.NotC out err = ((p : program.CProgram) → IsText bytes p → ⊥) × (length bytes ≤ 1073741824) × (line : ℕ) × Says (not_c_text line) out err

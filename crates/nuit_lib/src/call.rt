@@ -4,7 +4,7 @@ ghost use Rattle.std.specs.Prelude.{◌≡◌, ◌↔◌, ℕ, ◌≤◌, List, 
 ghost use Rattle.nu_base.specs.Outside.{Rose};
 ghost use Rattle.nuit_lib.specs.Asked.{asked};
 ghost use Rattle.nuit_lib.specs.Words.{BuildFile, Command, RunFile, command_of, file_of};
-ghost use Rattle.nuit_lib.specs.Ends.{AsksForFile, Builds, CountsInput, Ends, IsQuiet, Performs, Runs, TakesFront, call_of, is_before_run, limit_of, stream, takes_input};
+ghost use Rattle.nuit_lib.specs.Ends.{AsksForFile, Builds, CountsInput, Ends, IsQuiet, Performs, RunTakes, Runs, TakesFront, call_of, is_before_run, limit_of, stream, takes_input};
 
 use crate::building::build;
 use crate::running::run;
@@ -61,8 +61,12 @@ pub fn nuit<F: Files, I: Source, O: Sink, E: Sink>(
         → IsQuiet (F.faults files.old) (F.faults files.new) (I.faults input.old) (I.faults input.new) (O.faults out.old) (O.faults out.new) (E.faults err.old) (E.faults err.new) result
         → Runs bytes left steps (O.held out.old) (O.held out.new) (E.held err.old) (E.held err.new) result }
 
-    // What is left of a told input is a rest of it.
+    // What is left of a told input is a rest of it. A run that asks for no line takes nothing, and any other fewer than 4,096 bytes
+    // past the last line that it asked for.
     ensures input { TakesFront (I.left input.old) (I.left input.new) }
+    ensures few_input { (name bytes : List ℕ) → (steps : ℕ) → (told : List ℕ → Option (List ℕ))
+        → command_of (map string_bytes words.now) ≡ Some (RunFile name steps) → F.told files.old ≡ Some told → told name ≡ Some bytes
+        → RunTakes bytes steps input.old input.new (I.left input.old) (I.left input.new) }
 
     // It is taken by `run` alone, and not before the run begins, so that ReadFault comes where the file or the input failed.
     ensures other_input { takes_input (command_of (map string_bytes words.now)) ≡ false → input.new ≡ input.old }
@@ -90,6 +94,9 @@ fn answer<F: Files, I: Source, O: Sink, E: Sink>(
         (stream (O.held out.old) (O.held out.new) (O.faults out.old) (O.faults out.new))
         (stream (E.held err.old) (E.held err.new) (E.faults err.old) (E.faults err.new))) result }
     ensures input { TakesFront (I.left input.old) (I.left input.new) }
+    ensures few_input { (name bytes : List ℕ) → (steps : ℕ) → (told : List ℕ → Option (List ℕ))
+        → command_of (map string_bytes words.now) ≡ Some (RunFile name steps) → F.told files.old ≡ Some told → told name ≡ Some bytes
+        → RunTakes bytes steps input.old input.new (I.left input.old) (I.left input.new) }
     ensures other_input { takes_input (command_of (map string_bytes words.now)) ≡ false → input.new ≡ input.old }
     ensures early_input { is_before_run result ≡ true → input.new ≡ input.old }
     ensures unread_input { result ≡ Status.ReadFault → (Rose (I.faults input.old) (I.faults input.new) → ⊥) → input.new ≡ input.old }
@@ -142,6 +149,7 @@ fn perform<I: Source, O: Sink, E: Sink>(
         (stream (O.held out.old) (O.held out.new) (O.faults out.old) (O.faults out.new))
         (stream (E.held err.old) (E.held err.new) (E.faults err.old) (E.faults err.new)) result }
     ensures input { TakesFront (I.left input.old) (I.left input.new) }
+    ensures few_input { (steps : ℕ) → verb ≡ Verb::Run { steps } → RunTakes bytes.now steps input.old input.new (I.left input.old) (I.left input.new) }
     ensures other_input { takes_input (Some (asked verb name.now)) ≡ false → input.new ≡ input.old }
     ensures early_input { is_before_run result ≡ true → input.new ≡ input.old }
     ensures counts { I.faults input.old ≤ I.faults input.new }

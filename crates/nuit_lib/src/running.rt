@@ -2,7 +2,7 @@
 
 ghost use Rattle.std.specs.Prelude.{◌≡◌, ◌≤◌, length, true};
 ghost use Rattle.nuit_lib.specs.Replies.{message_at, not_c_text, status_at, stop_name, stop_text, undefined_text};
-ghost use Rattle.nuit_lib.specs.Ends.{RunEnds, Said, TakesFront, is_before_run, stream};
+ghost use Rattle.nuit_lib.specs.Ends.{RunEnds, RunTakes, Said, TakesFront, is_before_run, stream};
 
 use crate::saying::{READ_FAULT, put, say};
 use crate::status::Status;
@@ -31,6 +31,7 @@ pub(crate) fn run<I: Source, O: Sink, E: Sink>(
         (stream (E.held err.old) (E.held err.new) (E.faults err.old) (E.faults err.new)) result }
     ensures input { TakesFront (I.left input.old) (I.left input.new) }
     ensures early_input { is_before_run result ≡ true → input.new ≡ input.old }
+    ensures few { RunTakes text.now steps input.old input.new (I.left input.old) (I.left input.new) }
     ensures counts { I.faults input.old ≤ I.faults input.new }
 {
     let program = match read(alloc, text) {
