@@ -1,5 +1,5 @@
 -- Where a run asks for a line of the input, and what it takes of the input.
-use Rattle.std.specs.Prelude.{◌≡◌, ◌⊎◌, ℕ, ◌<◌, ◌≤◌, List, ◌++◌, length, Option, Some, IfSome, true, false}
+use Rattle.std.specs.Prelude.{◌≡◌, ◌⊎◌, ℕ, ◌<◌, ◌≤◌, List, ◌++◌, length, Option, Some, true, false}
 use Rattle.nu_run.specs.Runs.{Going}
 use Rattle.nu_run.specs.Steps.{More}
 use Rattle.op_rules.specs.TableRules.{table_rules}
@@ -22,20 +22,20 @@ pub record AsksLine (p : CProgram) (input : List ℕ) (steps : ℕ) (printed lef
   pub asked : asks (code_of p) asking ≡ true
   pub stands : gone (step table_rules (code_of p)) behind (start table_rules p input) ≡ More (state_of asking (over printed left))
 
--- what is left of the input where a run asks for a line of which these bytes are a part alone, and behind them at most one take
-pub record AsksLast (p : CProgram) (input : List ℕ) (steps : ℕ) (printed front chunk : List ℕ) (after : Option (List ℕ)) : Type 0 where
-  pub rest : List ℕ
-  pub is_left : IfSome after (λ left. left ≡ rest)
+-- a run asks for a line of which these bytes are a part alone, and behind them stand at most one take and then what was not taken
+pub record AsksLast (p : CProgram) (input : List ℕ) (steps : ℕ) (printed front chunk rest : List ℕ) : Type 0 where
   pub part : is_whole front ≡ false
   pub few : length chunk ≤ 4096
   pub asks : AsksLine p input steps printed (front ++ (chunk ++ rest))
 
--- the last of the bytes that a run took of its input
+-- the last of the bytes that a run took of its input, so that this is left
 pub record TakesForLine (p : CProgram) (input : List ℕ) (steps : ℕ) (after : Option (List ℕ)) : Type 0 where
   pub printed : List ℕ
   pub front : List ℕ
   pub chunk : List ℕ
-  pub last : AsksLast p input steps printed front chunk after
+  pub rest : List ℕ
+  pub is_left : after ≡ Some rest
+  pub last : AsksLast p input steps printed front chunk rest
 
 -- a run leaves the input as it was, or takes the last of it while it asks for a line that isn't whole: fewer than 4,096 bytes past it
 abbrev pub TakesFew : {A : Type 0} → CProgram → List ℕ → ℕ → A → A → Option (List ℕ) → Type 0

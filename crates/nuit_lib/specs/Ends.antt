@@ -80,7 +80,9 @@ pub record BrokenOff (bytes left : List ℕ) (steps : ℕ) (input : Stream) (out
   pub program : program.CProgram
   pub is_text : IsText bytes program
   pub front : List ℕ
-  pub last : AsksLast program left steps out front [] input.after
+  pub rest : List ℕ
+  pub is_left : IfSome input.before (λ told. input.after ≡ Some rest)
+  pub last : AsksLast program left steps out front [] rest
   pub says : err ≡ read_fault_text
   pub faults : Faulted input.faults input.faults_after
 
@@ -205,6 +207,10 @@ TakesFront before after = (taken : List ℕ) × Drains before after taken
 -- What the run of a file of these bytes takes of a told input.
 abbrev pub RunTakes : {A : Type 0} → List ℕ → ℕ → A → A → Option (List ℕ) → Option (List ℕ) → Type 0
 RunTakes bytes steps old new before after = (left : List ℕ) (p : program.CProgram) → before ≡ Some left → IsText bytes p → TakesFew p left steps old new after
+
+abbrev pub VerbTakes : {A : Type 0} → Verb → List ℕ → A → A → Option (List ℕ) → Option (List ℕ) → Type 0
+VerbTakes verb.Build bytes old new before after = ⊤
+VerbTakes (verb.Run steps) bytes old new before after = RunTakes bytes steps old new before after
 
 -- the commands that take input
 abbrev pub takes_input : Option Command → Bool

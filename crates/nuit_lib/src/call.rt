@@ -4,7 +4,7 @@ ghost use Rattle.std.specs.Prelude.{◌≡◌, ◌↔◌, ℕ, ◌≤◌, List, 
 ghost use Rattle.nu_base.specs.Outside.{Rose};
 ghost use Rattle.nuit_lib.specs.Asked.{asked};
 ghost use Rattle.nuit_lib.specs.Words.{BuildFile, Command, RunFile, command_of, file_of};
-ghost use Rattle.nuit_lib.specs.Ends.{AsksForFile, Builds, CountsInput, Ends, IsQuiet, Performs, RunTakes, Runs, TakesFront, call_of, is_before_run, limit_of, stream, takes_input};
+ghost use Rattle.nuit_lib.specs.Ends.{AsksForFile, Builds, CountsInput, Ends, IsQuiet, Performs, RunTakes, Runs, TakesFront, VerbTakes, call_of, is_before_run, limit_of, stream, takes_input};
 
 use crate::building::build;
 use crate::running::run;
@@ -149,7 +149,7 @@ fn perform<I: Source, O: Sink, E: Sink>(
         (stream (O.held out.old) (O.held out.new) (O.faults out.old) (O.faults out.new))
         (stream (E.held err.old) (E.held err.new) (E.faults err.old) (E.faults err.new)) result }
     ensures input { TakesFront (I.left input.old) (I.left input.new) }
-    ensures few_input { (steps : ℕ) → verb ≡ Verb::Run { steps } → RunTakes bytes.now steps input.old input.new (I.left input.old) (I.left input.new) }
+    ensures few_input { VerbTakes verb bytes.now input.old input.new (I.left input.old) (I.left input.new) }
     ensures other_input { takes_input (Some (asked verb name.now)) ≡ false → input.new ≡ input.old }
     ensures early_input { is_before_run result ≡ true → input.new ≡ input.old }
     ensures counts { I.faults input.old ≤ I.faults input.new }
