@@ -1,5 +1,5 @@
 -- The clauses of a command, from how a call ended, where no count of faults rose.
-use Rattle.std.proofs.Common.{◌≡◌, ℕ, ◌⊎◌, inl, inr, List, refl, sym, ◌∙◌, ap, subst, arith, Option, Some, None, IfSome, IsSome, unwrap_or, is_some, true, false}
+use Rattle.std.proofs.Common.{◌≡◌, ℕ, ◌≤◌, ◌⊎◌, inl, inr, List, refl, sym, ◌∙◌, ap, subst, arith, Option, Some, None, IfSome, IsSome, unwrap_or, is_some, true, false}
 use Rattle.nu_run.specs.declared.End.TheVariants as end
 use Rattle.nu_run.specs.Runs.{Run, Going, Ended, printed_by}
 use Rattle.nu_base.specs.Outside.{Adds}
@@ -10,7 +10,7 @@ use Rattle.nuit_lib.specs.declared.status.Status.{Status}
 use Rattle.nuit_lib.specs.declared.status.Status.TheVariants as status
 use Rattle.nuit_lib.specs.Words.{Command, BuildFile, RunFile, file_of, command_of}
 use Rattle.nuit_lib.specs.Replies.{Reply, BuildReply, RunReply, Ran, status_of, message_of}
-use Rattle.nuit_lib.specs.Ends.{Sunk, Call, Stays, Got, Broke, told_of, Replied, Ends, IsQuiet, AsksForFile, Names, Builds, Runs}
+use Rattle.nuit_lib.specs.Ends.{Stream, Call, Stays, Got, Broke, CountsInput, told_of, Replied, Unread, Unheard, Ends, IsQuiet, AsksForFile, Names, Builds, Runs}
 use Rattle.nuit_lib.specs.Refusals.{OneKind}
 use Rattle.nuit_lib.proofs.Ending.{other}
 use Rattle.nuit_lib.proofs.OneKind.{one_kind}
@@ -30,7 +30,7 @@ record Replies (c : Call) (answer : Status) : Type 0 where
   told : Got c.err message
 
 abbrev Quiet : Call → Status → Type 0
-Quiet c answer = IsQuiet c.faults c.faults_after c.out.faults c.out.faults_after c.err.faults c.err.faults_after answer
+Quiet c answer = IsQuiet c.faults c.faults_after c.input.faults c.input.faults_after c.out.faults c.out.faults_after c.err.faults c.err.faults_after answer
 
 replies : (c : Call) (answer : Status) → Ends c answer → Quiet c answer → Replies c answer
 replies c status.WriteFault w q = cases w.which
@@ -39,7 +39,11 @@ replies c status.WriteFault w q = cases w.which
     cases (inl b) = absurd (q.out b.0.faults.1)
     cases (inr b) = absurd (q.err b.1.faults.1)
 replies c status.Memory w q = absurd (q.memory refl)
-replies c status.ReadFault w q = absurd (q.files w.is_due.faults.1)
+replies c status.ReadFault w q = cases w.is_due
+  where
+    cases : Unread c w.text w.message ⊎ Unheard c w.text w.message → Replies c status.ReadFault
+    cases (inl u) = absurd (q.files u.faults.1)
+    cases (inr u) = absurd (q.input u.broken.faults.1)
 replies c a w q = record { text = w.text; message = w.message; is = w.is_due; got = w.got; told = w.told }
 
 -- the statuses that a run has
@@ -92,9 +96,24 @@ missing_asks None file input t m r = absurd r
 missing_asks (Some command) file input t m r = refl
 
 pub asks_of : (c : Call) (answer : Status) → Ends c answer → AsksForFile (command_of c.words) answer
-asks_of c status.ReadFault w = ap is_some w.is_due.is
+asks_of c status.ReadFault w = cases w.is_due
+  where
+    cases : Unread c w.text w.message ⊎ Unheard c w.text w.message → IsSome (command_of c.words)
+    cases (inl u) = ap is_some u.is
+    cases (inr u) = ap is_some u.is
 asks_of c status.Missing w = missing_asks (command_of c.words) w.is_due.file w.is_due.input w.text w.message w.is_due.reply
 asks_of c a w = tt
+
+-- the count of the input's faults
+pub counts_of : (c : Call) (answer : Status) → Ends c answer → c.input.faults ≤ c.input.faults_after → CountsInput c.input.faults c.input.faults_after answer
+counts_of c status.ReadFault w le = cases w.is_due
+  where
+    cases : Unread c w.text w.message ⊎ Unheard c w.text w.message → CountsInput c.input.faults c.input.faults_after status.ReadFault
+    cases (inl u) = inl u.input_stays.faults
+    cases (inr u) = inr u.broken.faults
+counts_of c status.WriteFault w le = le
+counts_of c status.Memory w le = le
+counts_of c a w le = w.is_due.input_faults
 
 -- a reply on a file is Missing exactly where there is none
 missing_reply : (command : Command) (file : Option (List ℕ)) (input : List ℕ) (answer : Status) (t m : List ℕ) → Reply (Some command) file input answer t m → (answer ≡ status.Missing → file ≡ None) × (file ≡ None → answer ≡ status.Missing)
@@ -147,7 +166,7 @@ builds_of c name told w t bytes answer b e q =
     go a text message d got said = absurd d
 
 -- what a run wrote is its program's
-ran_of : (bytes input : List ℕ) (steps : ℕ) (out err : Sunk) (answer : Status) (text message : List ℕ) → Ran bytes input steps answer text message → Got out text → Got err message → Runs bytes input steps out.before out.after err.before err.after answer
+ran_of : (bytes input : List ℕ) (steps : ℕ) (out err : Stream) (answer : Status) (text message : List ℕ) → Ran bytes input steps answer text message → Got out text → Got err message → Runs bytes input steps out.before out.after err.before err.after answer
 ran_of bytes input steps out err answer text message d got told = record {
   too_large = (λ e. absurd (subst IsRanStatus e (ran_is bytes input steps answer text message d)), λ long. absurd (let short = d.short in omega (arith, long, short)));
   not_c = (λ e. absurd (subst IsRanStatus e (ran_is bytes input steps answer text message d)), λ r. absurd (r.1 d.is_run.program d.is_run.is_text));
@@ -159,7 +178,7 @@ ran_of bytes input steps out err answer text message d got told = record {
       );
 }
 
-pub runs_of : (c : Call) (name : List ℕ) (steps : ℕ) (told : List ℕ → Option (List ℕ)) → command_of c.words ≡ Some (RunFile name steps) → c.told ≡ Some told → (bytes input : List ℕ) (answer : Status) → told name ≡ Some bytes → c.input ≡ Some input → Ends c answer → Quiet c answer → Runs bytes input steps c.out.before c.out.after c.err.before c.err.after answer
+pub runs_of : (c : Call) (name : List ℕ) (steps : ℕ) (told : List ℕ → Option (List ℕ)) → command_of c.words ≡ Some (RunFile name steps) → c.told ≡ Some told → (bytes input : List ℕ) (answer : Status) → told name ≡ Some bytes → c.input.before ≡ Some input → Ends c answer → Quiet c answer → Runs bytes input steps c.out.before c.out.after c.err.before c.err.after answer
 runs_of c name steps told w t bytes input answer b i e q =
     let r = replies c answer e q in
     let given : r.is.input ≡ input = sym (subst (λ o. IfSome o (λ left. left ≡ r.is.input)) i r.is.given) in

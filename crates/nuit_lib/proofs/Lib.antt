@@ -3,6 +3,7 @@ pub mod OneKind
 pub mod Ways
 pub mod Composed
 pub mod Built
+pub mod Drawn
 pub mod RunEnds
 pub mod Steps
 pub mod Clauses

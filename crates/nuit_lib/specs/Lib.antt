@@ -6,4 +6,5 @@ pub mod Refusals
 pub mod Compiled
 pub mod Reading
 pub mod Replies
+pub mod Asking
 pub mod Ends

@@ -2,7 +2,7 @@
 
 ghost use Rattle.std.specs.Prelude.{◌≤◌, length};
 ghost use Rattle.nuit_lib.specs.Replies.{BuildReply, refused_text};
-ghost use Rattle.nuit_lib.specs.Ends.{Nothing, Said, Writes, sunk};
+ghost use Rattle.nuit_lib.specs.Ends.{Nothing, Said, Writes, stream};
 
 use crate::compiling::compile;
 use crate::reading::{ReadEnd, read};
@@ -23,8 +23,8 @@ pub(crate) fn build<O: Sink, E: Sink>(
 ) -> Status
     requires { length text.now ≤ 262144 }
     ensures { Writes (BuildReply name.now text.now) Nothing
-        (sunk (O.held out.old) (O.held out.new) (O.faults out.old) (O.faults out.new))
-        (sunk (E.held err.old) (E.held err.new) (E.faults err.old) (E.faults err.new)) result }
+        (stream (O.held out.old) (O.held out.new) (O.faults out.old) (O.faults out.new))
+        (stream (E.held err.old) (E.held err.new) (E.faults err.old) (E.faults err.new)) result }
 {
     let script = match read(alloc, text) {
         Ok(script) => script,
@@ -45,7 +45,7 @@ pub(crate) fn build<O: Sink, E: Sink>(
 
 // Says that a script is refused.
 fn refuse<E: Sink>(alloc: Global, err: &mut E, kind: Kind, line: u32) -> Status
-    ensures { Said (sunk (E.held err.old) (E.held err.new) (E.faults err.old) (E.faults err.new)) (refused_text kind line) Status.Refused result }
+    ensures { Said (stream (E.held err.old) (E.held err.new) (E.faults err.old) (E.faults err.new)) (refused_text kind line) Status.Refused result }
 {
     let kind = kind.name();
     let Ok(message) = format!(in alloc; "nuit: refused: {kind}, line {line}\n") else {

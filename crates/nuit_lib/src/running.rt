@@ -1,10 +1,10 @@
 //! `run FILE` and `run FILE STEPS`: from the bytes of a C text to its run.
 
-ghost use Rattle.std.specs.Prelude.{◌≡◌, ℕ, ◌≤◌, List, length};
-ghost use Rattle.nuit_lib.specs.Replies.{RunPart, RunReply, message_at, not_c_text, status_at, stop_name, stop_text, undefined_text};
-ghost use Rattle.nuit_lib.specs.Ends.{Said, Writes, sunk};
+ghost use Rattle.std.specs.Prelude.{◌≡◌, ◌≤◌, length, true};
+ghost use Rattle.nuit_lib.specs.Replies.{message_at, not_c_text, status_at, stop_name, stop_text, undefined_text};
+ghost use Rattle.nuit_lib.specs.Ends.{RunEnds, RunTakes, Said, TakesFront, is_before_run, stream};
 
-use crate::saying::{put, say};
+use crate::saying::{READ_FAULT, put, say};
 use crate::status::Status;
 use c_machine::{Stepped, Trouble, start};
 use c_meaning::CEnd;
@@ -25,10 +25,14 @@ pub(crate) fn run<I: Source, O: Sink, E: Sink>(
     err: &mut E,
 ) -> Status
     requires { length text.now ≤ 1073741824 }
-    ensures writes { (left : List ℕ) → Writes (RunReply text.now left steps) (RunPart text.now left steps)
-        (sunk (O.held out.old) (O.held out.new) (O.faults out.old) (O.faults out.new))
-        (sunk (E.held err.old) (E.held err.new) (E.faults err.old) (E.faults err.new)) result }
-    ensures input { input.new ≡ input.old }
+    ensures writes { RunEnds text.now steps
+        (stream (I.left input.old) (I.left input.new) (I.faults input.old) (I.faults input.new))
+        (stream (O.held out.old) (O.held out.new) (O.faults out.old) (O.faults out.new))
+        (stream (E.held err.old) (E.held err.new) (E.faults err.old) (E.faults err.new)) result }
+    ensures input { TakesFront (I.left input.old) (I.left input.new) }
+    ensures early_input { is_before_run result ≡ true → input.new ≡ input.old }
+    ensures few { RunTakes text.now steps input.old input.new (I.left input.old) (I.left input.new) }
+    ensures counts { I.faults input.old ≤ I.faults input.new }
 {
     let program = match read(alloc, text) {
         Ok(program) => program,
@@ -45,7 +49,7 @@ pub(crate) fn run<I: Source, O: Sink, E: Sink>(
             None => Status::Memory,
         },
         Err(Trouble::WriteFault) => Status::WriteFault,
-        Err(Trouble::ReadFault) => Status::ReadFault,
+        Err(Trouble::ReadFault) => say(err, READ_FAULT, Status::ReadFault),
         Err(Trouble::Memory) => Status::Memory,
         Err(Trouble::Failed) => Status::Memory,
     }
@@ -53,7 +57,7 @@ pub(crate) fn run<I: Source, O: Sink, E: Sink>(
 
 // Says that no program stands for the bytes.
 fn say_not_c<E: Sink>(alloc: Global, err: &mut E, line: u32) -> Status
-    ensures { Said (sunk (E.held err.old) (E.held err.new) (E.faults err.old) (E.faults err.new)) (not_c_text line) Status.NotC result }
+    ensures { Said (stream (E.held err.old) (E.held err.new) (E.faults err.old) (E.faults err.new)) (not_c_text line) Status.NotC result }
 {
     let Ok(message) = format!(in alloc; "nuit: not C, line {line}\n") else {
         return Status::Memory;
@@ -63,7 +67,7 @@ fn say_not_c<E: Sink>(alloc: Global, err: &mut E, line: u32) -> Status
 
 // Says how a run ended.
 fn say_end<E: Sink>(alloc: Global, err: &mut E, end: &CEnd) -> Status
-    ensures { Said (sunk (E.held err.old) (E.held err.new) (E.faults err.old) (E.faults err.new)) (message_at end.now) (status_at end.now) result }
+    ensures { Said (stream (E.held err.old) (E.held err.new) (E.faults err.old) (E.faults err.new)) (message_at end.now) (status_at end.now) result }
 {
     match end {
         CEnd::Done => Status::Done,
@@ -78,7 +82,7 @@ fn say_end<E: Sink>(alloc: Global, err: &mut E, end: &CEnd) -> Status
 
 // Says that a run stopped.
 fn say_stop<E: Sink>(alloc: Global, err: &mut E, kind: StopKind) -> Status
-    ensures { Said (sunk (E.held err.old) (E.held err.new) (E.faults err.old) (E.faults err.new)) (stop_text kind) Status.Stopped result }
+    ensures { Said (stream (E.held err.old) (E.held err.new) (E.faults err.old) (E.faults err.new)) (stop_text kind) Status.Stopped result }
 {
     let name = name_of(kind);
     let Ok(message) = format!(in alloc; "nuit: stop: {name}\n") else {
@@ -102,7 +106,7 @@ fn name_of(kind: StopKind) -> &'static str
 
 // Says where a run met a statement of which nothing is said.
 fn say_undefined<E: Sink>(alloc: Global, err: &mut E, function: u32, statement: u64) -> Status
-    ensures { Said (sunk (E.held err.old) (E.held err.new) (E.faults err.old) (E.faults err.new)) (undefined_text function statement) Status.Undefined result }
+    ensures { Said (stream (E.held err.old) (E.held err.new) (E.faults err.old) (E.faults err.new)) (undefined_text function statement) Status.Undefined result }
 {
     let Ok(message) = format!(in alloc;
         "nuit: undefined: function {function}, statement {statement}\n"
