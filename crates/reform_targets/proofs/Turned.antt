@@ -1,6 +1,6 @@
 -- What is taken off the end of a list that was turned round, one after another.
 use denote.Param.Weighed.{most, most-append}
-use Rattle.std.proofs.Common.{◌≡◌, ◌≤◌, ℕ, ◌+◌, map, List, [], ◌∷◌, ◌++◌, reverse, refl, sym, ap, ◌∙◌, arith}
+use Rattle.std.proofs.Common.{◌≡◌, ◌≤◌, ℕ, ◌+◌, map, length, List, [], ◌∷◌, ◌++◌, reverse, refl, sym, ap, ◌∙◌, arith}
 use Rattle.std.proofs.lemmas.List.{reverse-append, reverse-reverse, append-nil}
 use Rattle.code_forms.specs.declared.operand.Operand.TheVariants as operand
 use Rattle.node_tree.specs.Blocks as tree
@@ -28,6 +28,13 @@ turned_depth depth xs ys e =
     let same : most depth ys ≡ most depth (reverse xs) = ap (most depth) e in
     let less = reversed depth xs in
     omega (arith, same, less)
+
+pub none_left : (left : List Place) → length left ≡ 0 → left ≡ []
+none_left [] e = refl
+none_left (x ∷ left) e = absurd (some e)
+  where
+    some : length (x ∷ left) ≡ 0 → ⊥
+    some h = omega (arith, h)
 
 next_off : (left rest : List Place) (x : Place) → left ≡ rest ++ x ∷ [] → reverse left ≡ x ∷ reverse rest
 next_off left rest x e = ap reverse e ∙ reverse-append rest (x ∷ [])
