@@ -1,41 +1,20 @@
 //! Branches and returns.
 
-ghost use Rattle.std.specs.Prelude.{◌≡◌, ℕ, IfOk, OnOk};
+ghost use Rattle.std.specs.Prelude.{◌≡◌, ℕ, ◌+◌, ◌<◌, ◌^◌, IfOk};
 ghost use Rattle.node_tree.specs.Tree.{block};
-ghost use Rattle.carries_base.specs.Laws.{if_block};
 ghost use Rattle.carried_codes.specs.Parts.{made};
 ghost use Rattle.carried_codes.specs.Statements as statements;
 ghost use Rattle.reform_blocks.specs.Parts.{carrier};
+ghost use Rattle.reform_functions.specs.Turning.{made_of};
 
-use node_tree::{Block, Node, Operand, Temps};
-use op_forms::Op;
+use node_tree::{Block, Node};
 use reform_base::Part;
-use reform_blocks::{append, branches, followed, operation, single};
+use reform_blocks::followed;
+use reform_functions::Made;
+use reform_values::decided;
 use std::alloc::{AllocError, Global};
 
-/// By the truth value of a part, which goes to a temporary, one of two blocks runs.
-pub fn tested(
-    alloc: Global,
-    test: Part,
-    yes: Block,
-    no: Block,
-    line: u32,
-    truth: u64,
-) -> Result<Block, AllocError>
-    ensures { IfOk result (λ b. block b ≡ if_block line truth (block test.block) test.value (block yes) (block no)) }
-{
-    let Part {
-        block: first,
-        value,
-    } = test;
-    let asked = operation(alloc, truth, line, Op::Truth, value)?;
-    let behind = single(alloc, asked)?;
-    let behind = followed(behind, branches(Operand::Temp(truth), yes, no))?;
-    let whole = append(first, behind)?;
-    Ok(whole)
-}
-
-/// An `if` statement (reference, section 8.1).
+/// An `if` statement; an `elif` is one in the other block (reference, section 8.1).
 ///
 /// # Errors
 ///
@@ -47,17 +26,19 @@ pub fn branch(
     body: Block,
     other: Block,
     line: u32,
-    temps: &mut Temps,
-) -> Result<Block, AllocError>
-    ensures is { IfOk result (λ b. block b ≡ (statements.branch line (carrier test) (block body) (block other) temps.old).block) }
-    ensures next { OnOk result (temps.new ≡ (statements.branch line (carrier test) (block body) (block other) temps.old).next) }
+    next: u64,
+) -> Result<Made, AllocError>
+    requires { next + 1 < 2 ^ 64 }
+    ensures { IfOk result (λ m. made_of m ≡ statements.branch line (carrier test) (block body) (block other) next) }
 {
-    let truth = temps.fresh()?;
-    let whole = tested(alloc, test, body, other, line, truth)?;
-    Ok(whole)
+    let block = decided(alloc, test, body, other, line, next)?;
+    Ok(Made {
+        block,
+        next: next + 1,
+    })
 }
 
-/// A `return` statement with its value (reference, section 7.6). It draws no temporaries.
+/// A `return` statement with its value, which draws no temporary (reference, section 7.6).
 ///
 /// # Errors
 ///
@@ -66,10 +47,6 @@ pub fn branch(
 pub fn return_value(value: Part) -> Result<Block, AllocError>
     ensures { IfOk result (λ b. (next : ℕ) → statements.return_value (carrier value) next ≡ made (block b) next) }
 {
-    let Part {
-        block: first,
-        value,
-    } = value;
-    let whole = followed(first, Node::Return { value })?;
-    Ok(whole)
+    let Part { block, value } = value;
+    followed(block, Node::Return { value })
 }

@@ -1,13 +1,10 @@
-//! Branches, loops and returns as primitive statements, and what stands inside comprehensions.
+//! Branches, loops and returns as primitive statements, of parts that are made already (reference, sections 7.6, 8.1 to 8.3).
 //!
-//! Each function takes evaluated expressions and blocks, and answers the block that carries the whole statement where they carry their
-//! parts.
+//! Each function takes the parts of a statement and the next temporary, as those of expressions do.
 #![tactic(auto)]
 
 mod branches;
-mod collected;
 mod loops;
 
 pub use branches::{branch, return_value};
-pub use collected::{emit, filter, gather, push, put};
-pub use loops::{for_loop, over, while_loop};
+pub use loops::{for_loop, while_loop};
