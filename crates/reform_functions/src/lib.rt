@@ -14,4 +14,4 @@ pub use classes::make_class;
 pub use comprehensions::comprehension;
 pub use decorators::{Decorator, decorate, defined};
 pub use functions::{Named, function};
-pub use turns::{Made, emit, filter, gather, over, push, put};
+pub use turns::{Made, begun, emit, filter, gather, over, push, put, turn};

@@ -1,7 +1,11 @@
 //! What comprehensions do inside.
 
-ghost use Rattle.std.specs.Prelude.{◌≡◌, ◌+◌, ◌<◌, ◌^◌, [], ◌∷◌, IfOk};
+ghost use Rattle.std.specs.Prelude.{◌≡◌, ◌+◌, ◌<◌, ◌^◌, [], ◌∷◌, false, IfOk};
+ghost use Rattle.op_forms.specs.declared.constant.Const.TheVariants as constant;
+ghost use Rattle.code_forms.specs.declared.operand.Operand.TheVariants as operand;
 ghost use Rattle.node_tree.specs.Tree.{block};
+ghost use Rattle.node_tree.specs.Blocks.{alone};
+ghost use Rattle.node_tree.specs.Blocks as tree;
 ghost use Rattle.carries_control.specs.Loops.{for_turn_block};
 ghost use Rattle.carried_codes.specs.Statements as statements;
 ghost use Rattle.reform_blocks.specs.Parts.{carrier};
@@ -11,7 +15,7 @@ use node_tree::{Argument, Block, Node, Operand};
 use op_forms::Op;
 use reform_base::Part;
 use reform_blocks::{append, branches, flag, followed, loops, operation, single};
-use reform_values::{attempt, on_none, on_two, stopped};
+use reform_values::{attempt, decided, on_none, on_two, stopped};
 use sqlite_items::Items;
 use std::alloc::{AllocError, Global};
 
@@ -123,25 +127,20 @@ pub fn filter(
     requires { next + 1 < 2 ^ 64 }
     ensures { IfOk result (λ m. made_of m ≡ statements.filter line (carrier test) (block body) next) }
 {
-    let Part {
-        block: first,
-        value,
-    } = test;
-    let asked = operation(alloc, next, line, Op::Truth, value)?;
-    let behind = single(alloc, asked)?;
-    let behind = followed(
-        behind,
-        branches(Operand::Temp(next), body, Items::new(alloc)),
-    )?;
-    let block = append(first, behind)?;
+    let block = decided(alloc, test, body, Items::new(alloc), line, next)?;
     Ok(Made {
         block,
         next: next + 1,
     })
 }
 
-// The next value goes to a temporary, is bound, and the body runs; or there is none.
-fn turn(
+/// A turn of a loop over the iterator in the first of five temporaries: its next value goes to the temporary `item`, is bound by a block,
+/// and the body runs, which `continue` leaves; or there is none, which the second temporary tells (reference, section 8.3).
+///
+/// # Errors
+///
+/// Want of memory alone.
+pub fn turn(
     alloc: Global,
     item: u64,
     bind: Block,
@@ -163,6 +162,22 @@ fn turn(
     followed(whole, branches(Operand::Temp(next + 1), over, inside))
 }
 
+/// A loop of such turns, before which the temporary `over` is false; where it is true behind the loop, another block runs.
+///
+/// # Errors
+///
+/// Want of memory alone.
+pub fn begun(alloc: Global, turn: Block, over: u64, other: Block) -> Result<Block, AllocError>
+    ensures { IfOk result (λ b. block b ≡ tree.Follow (tree.Constant over (constant.Bool false)) (tree.Follow (tree.Loop (block turn)) (alone (tree.If (operand.Temp over) (block other) tree.Stop)))) }
+{
+    let whole = single(alloc, flag(over, false))?;
+    let whole = followed(whole, loops(turn))?;
+    followed(
+        whole,
+        branches(Operand::Temp(over), other, Items::new(alloc)),
+    )
+}
+
 /// The loop over the iterator in a temporary, each of whose values goes to the temporary `item`, and from there on by a block.
 ///
 /// # Errors
@@ -182,17 +197,9 @@ pub fn over(
     ensures { IfOk result (λ b. block b ≡ statements.over line item from (block bind) (block body) next) }
 {
     let turn = turn(alloc, item, bind, body, line, next)?;
-    let whole = single(alloc, Node::Copy { to: next, from })?;
-    let whole = followed(whole, flag(next + 1, false))?;
-    let whole = followed(whole, loops(turn))?;
-    followed(
-        whole,
-        branches(
-            Operand::Temp(next + 1),
-            Items::new(alloc),
-            Items::new(alloc),
-        ),
-    )
+    let whole = begun(alloc, turn, next + 1, Items::new(alloc))?;
+    let first = single(alloc, Node::Copy { to: next, from })?;
+    append(first, whole)
 }
 
 /// What an operation makes is filled by a block, and returned.

@@ -24,8 +24,12 @@ fn into(to: u64, part: Part) -> Result<Block, AllocError>
     followed(block, puts(to, value))
 }
 
-// One of two blocks follows a test, whose truth goes to a temporary.
-fn decided(
+/// One of two blocks follows a test, whose truth goes to a temporary.
+///
+/// # Errors
+///
+/// Want of memory alone.
+pub fn decided(
     alloc: Global,
     test: Part,
     yes: Block,

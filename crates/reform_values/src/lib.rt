@@ -15,7 +15,7 @@ mod pauses;
 
 pub use calls::{Passed, call};
 pub use chains::{Link, chain};
-pub use choices::{both, choose};
+pub use choices::{both, choose, decided};
 pub use displays::{Entry, Item, dict, starred};
 pub use made::{Valued, left_in, on_none, on_two};
 pub use operations::{gathered, operate};
