@@ -14,6 +14,7 @@ from tools/costs.txt, which has the seconds of each crate's proof on an idle pro
 """
 import contextlib
 import fcntl
+import hashlib
 import os
 import pathlib
 import shutil
@@ -78,12 +79,31 @@ def give(library, folder):
     new.rename(folder / "out/rlib")
 
 
+def text_of(path):
+    return path.read_text() if path.is_file() else None
+
+
+def text_sum(name, below):
+    """A sum of a crate's files and of those below it."""
+    found = hashlib.sha256("".join(below).encode())
+    for path in sorted(it for part in ("src", "specs", "proofs") for it in (TOP / "crates" / name / part).rglob("*") if it.is_file()):
+        found.update(f"{path.relative_to(TOP)}\n".encode() + path.read_bytes())
+    return found.hexdigest()
+
+
 class Proving:
     """Which crates are proved, which are being proved, and what is left."""
 
     def __init__(self, names, named, is_program):
         self.named, self.costs = named, costs()
-        self.left, self.done, self.running = list(names), set(), {}
+        self.sums = {}
+        for name in names:
+            self.sums[name] = text_sum(name, [self.sums[it] for it in named[name]])
+        self.done = set()  # what stands is proved; rt looks once more when it builds the program
+        for name in names:
+            if text_of(TOP / "crates" / name / "out/rlib/text") == self.sums[name] and all(it in self.done for it in named[name]):
+                self.done.add(name)
+        self.left, self.running = [name for name in names if name not in self.done], {}
         self.count = len(names) + is_program
         self.processors = len(os.sched_getaffinity(0))
         self.lanes = max(1, min(self.processors, memory() // MEMORY))
@@ -131,6 +151,7 @@ class Proving:
             self.spent += took
             self.thought += self.cost(name)
         (TOP / "crates" / name / "out").mkdir(exist_ok=True)
+        (folder / "out/rlib/text").write_text(self.sums[name])
         give(folder / "out/rlib", TOP / "crates" / name)
         self.done.add(name)
         shutil.rmtree(ROOM / name, ignore_errors=True)
