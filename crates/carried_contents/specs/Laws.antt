@@ -1,0 +1,29 @@
+-- What stands in the primitive statements of lawful codes.
+use Rattle.std.specs.Prelude.{◌≡◌, ℕ, List, [], ◌∷◌, length, Some, None, Ok}
+use Rattle.std.specs.List.{AllByRecursion}
+use Rattle.node_tree.specs.Tree as tree
+use Rattle.node_tree.specs.declared.script.NodeCode.{NodeCode}
+use Rattle.py_ast.specs.declared.scoped.Scoped.{Scoped}
+use Rattle.py_ast.specs.declared.stmt.Script.{Script}
+use Rattle.py_meaning.specs.Syntax as syntax
+use Rattle.py_meaning.specs.Script.{all_codes}
+use Rattle.py_safe.specs.Rosters.{Role, Roster}
+use Rattle.py_safe.specs.Constructs.{LawfulCode}
+use Rattle.py_scopes.specs.Resolve.{Answers, AnswersBuiltIn}
+use Rattle.carried_codes.specs.Nodes.{code_nodes}
+use Rattle.carried_codes.specs.Laws.{AreMadeOf}
+use Rattle.carried_contents.specs.Taking.{refused, unnumbered}
+
+-- each operation takes what it is given, and each function has the number of its code
+pub record CodesAreTaken : Type 0 where
+  pub taken : (r : Roster) (role : Role) (c : syntax.Code) → LawfulCode r role c → refused (code_nodes c) ≡ 0
+  pub numbered : (r : Roster) (role : Role) (c : syntax.Code) → LawfulCode r role c → unnumbered (code_nodes c) ≡ 0
+
+abbrev pub IsTaken : NodeCode → Type 0
+IsTaken k = (refused (tree.block k.body) ≡ 0) × (unnumbered (tree.block k.body) ≡ 0)
+
+-- so it is in the nodes of a script that keeps the static rules, alone or with a built-in text behind it
+pub record AcceptedScriptsAreTaken : Type 0 where
+  pub alone : (script : Script) (scoped : Scoped) (nodes : List NodeCode) → Answers script (Ok scoped) → AreMadeOf (all_codes scoped None) nodes → AllByRecursion IsTaken nodes
+  pub with_text : (script : Script) (scoped : Scoped) (text : Script) (behind : Scoped) (nodes : List NodeCode) → Answers script (Ok scoped) → AnswersBuiltIn text (Ok behind) → AreMadeOf (all_codes scoped (Some behind)) nodes
+      → AllByRecursion IsTaken nodes
