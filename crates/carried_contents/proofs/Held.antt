@@ -70,7 +70,7 @@ stored to (operand.Const c) = record { taken = refl; numbered = refl }
 -- parts one after another, and a last block
 pub all_joined : (ps : List Carrier) (b : tree.Block) → AllTaken ps → Taken b → Taken (joined ps b)
 all_joined [] b c d = d
-all_joined (p ∷ ps) b c d = both {p.block} {joined ps b} c.0 (all_joined ps b c.1 d)
+all_joined (p ∷ ps) b c d = both c.0 (all_joined ps b c.1 d)
 
 -- Rewritten blocks
 
@@ -114,15 +114,22 @@ mutual
   form_redirected t (tree.Do to line o args) d h = h
   form_redirected t (tree.Call to line function args) d h = h
   form_redirected t (tree.Yield to line a) d h = h
-  form_redirected t (tree.If test y n) d h = choice {test} {redirect t y d} {redirect t n d} (redirected t y d (on_true {test} {y} {n} h)) (redirected t n d (on_false {test} {y} {n} h))
-  form_redirected t (tree.Loop body) d h = loop {redirect t body (suc d)} (redirected t body (suc d) (looped {body} h))
+  form_redirected t (tree.If test y n) d h = choice (redirected t y d (on_true h)) (redirected t n d (on_false h))
+  form_redirected t (tree.Loop body) d h = loop (redirected t body (suc d) (looped h))
   form_redirected t (tree.Leave levels) d h = left t d levels
   form_redirected t (tree.Catch to body handler) d h =
-      catch {to} {redirect t body d} {redirect t handler d} (redirected t body d (tried {to} {body} {handler} h)) (redirected t handler d (handled {to} {body} {handler} h))
+      catch (redirected t body d (tried h)) (redirected t handler d (handled h))
   form_redirected t (tree.Return a) d h = returned t a d
   form_redirected t (tree.Raise a) d h = h
   form_redirected t (tree.Unset to) d h = h
 
   pub redirected : (t : ℕ) (b : tree.Block) (d : ℕ) → Taken b → Taken (redirect t b d)
   redirected t tree.Stop d p = stop
-  redirected t (tree.Follow x r) d p = follow {redirect_form t x d} {redirect t r d} (form_redirected t x d (first {x} {r} p)) (redirected t r d (rest {x} {r} p))
+  redirected t (tree.Follow x r) d p = follow (form_redirected t x d (first p)) (redirected t r d (rest p))
+
+-- where it is plain to see
+pub done : {x : tree.Form} → form_total (form_operations refuses) x ≡ 0 → form_total (form_operations unnumbers) x ≡ 0 → Held x
+done t n = record { taken = t; numbered = n }
+
+pub clear : {b : tree.Block} → refused b ≡ 0 → unnumbered b ≡ 0 → Taken b
+clear t n = record { taken = t; numbered = n }

@@ -1,1 +1,4 @@
 pub mod Held
+pub mod Operations
+pub mod Expressions
+pub mod Places
