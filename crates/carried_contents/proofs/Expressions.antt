@@ -1,9 +1,11 @@
 -- The blocks of expressions, of the blocks of their parts.
-use Rattle.std.proofs.Common.{ℕ, ◌+◌, Bool, true, false, List, [], ◌∷◌, map, length, not, if◌then◌else◌, Option, Some, ◌≡◌, refl, ap}
+use Rattle.std.proofs.Common.{ℕ, ◌+◌, Bool, true, false, List, [], ◌∷◌, map, length, not, if◌then◌else◌, Option, Some, codes, ◌&&◌, ◌≡◌, refl, ap}
 use Rattle.std.specs.List.{AllByRecursion}
+use Rattle.nu_text.specs.Names.{is_among, built_in_names}
 use Rattle.op_forms.specs.declared.op.Op.{Op}
 use Rattle.op_forms.specs.declared.op.Op.TheVariants as op
 use Rattle.op_forms.specs.declared.signature.ArgumentKind.TheVariants as kind
+use Rattle.code_forms.specs.declared.operand.Argument.{Argument}
 use Rattle.code_forms.specs.declared.operand.Argument.TheVariants as argument
 use Rattle.code_forms.specs.declared.operand.Operand.{Operand}
 use Rattle.code_forms.specs.declared.operand.Operand.TheVariants as operand
@@ -13,18 +15,19 @@ use Rattle.node_tree.specs.Blocks as tree
 use Rattle.py_safe.specs.Constructs.{TakesTwo, MayNegate}
 use Rattle.carries_base.specs.Carries.{Carrier, joined}
 use Rattle.carries_base.specs.Laws.{if_block}
+use Rattle.carries_control.specs.Raises.{stopped_block}
 use Rattle.carries_values.specs.Parts.{into, moved}
 use Rattle.carries_values.specs.Choices.{Linked, junction_block, conditional_block, compared_block, further_block, links_block, comparison_block}
-use Rattle.carries_values.specs.Displays.{Item, Entry, added_block, fill_block, enter_block, list_block, dict_block}
+use Rattle.carries_values.specs.Displays.{Item, Entry, added_block, fill_block, enter_block, list_block, tuple_block, dict_block}
 use Rattle.carries_values.specs.Displays as displays
 use Rattle.carries_values.specs.Calls.{Passed, keywords_block, key_block, pass_block, call_block}
 use Rattle.carries_values.specs.Calls as calls
 use Rattle.carries_definitions.specs.Delegated.{delegate_block}
-use Rattle.carries_definitions.specs.Told.{sent_block, thrown_block}
+use Rattle.carries_definitions.specs.Told.{resumed_block, sent_block, threw_block, thrown_block}
 use Rattle.carried_codes.specs.Parts.{Named, Decorator}
 use Rattle.carried_codes.specs.Seats.{Seat, Local, Own, Free, Module, Space, reads, stores, unbinds}
 use Rattle.carried_codes.specs.Expressions.{puts, function_form, function_block, decorated_block, class_block}
-use Rattle.carried_contents.proofs.Held.{Held, Taken, AllTaken, stop, follow, one, both, choice, loop, stored, all_joined, done, clear}
+use Rattle.carried_contents.proofs.Held.{Held, Taken, AllTaken, stop, follow, one, both, choice, loop, catch, stored, all_joined, done, clear}
 use Rattle.carried_contents.proofs.Operations.{two_held}
 
 -- Names
@@ -162,13 +165,48 @@ pub comprehension_taken : (line code : ℕ) (p : Carrier) (cells : List ℕ) (t 
     → Taken (tree.append p.block (tree.Follow (tree.Do t line op.Iter (argument.Value p.value ∷ [])) (tree.append (function_block line code [] [] cells (t + 1)) (alone (tree.Do (t + 4) line op.Call (of_temp (t + 1 + 2) ∷ of_temp t ∷ []))))))
 comprehension_taken line code p cells t c = both c (follow (done refl refl) (both (function_taken line code [] [] cells (t + 1)) (clear refl refl)))
 
--- `yield from`
+-- Exceptions and `yield from`
+
+pub native_held : (t line : ℕ) (name : List ℕ) → is_among built_in_names name ≡ true → Held (tree.Do t line op.Native (argument.Name name ∷ []))
+native_held t line name e = done (ap (λ b. if not (b && true) then 1 else 0) e) refl
+
+stop_iteration : is_among built_in_names (codes "StopIteration") ≡ true
+unfolding built_in_names
+stop_iteration = refl
+
+generator_exit : is_among built_in_names (codes "GeneratorExit") ≡ true
+unfolding built_in_names
+generator_exit = refl
+
+pub stopped_taken : (line x t : ℕ) (over : tree.Block) → Taken over → Taken (stopped_block line x t over)
+stopped_taken line x t over c =
+    follow (native_held t line (codes "StopIteration") stop_iteration) (follow (done refl refl) (one (choice c (clear refl refl))))
+
+resumed_taken : (line t : ℕ) (o : Op) (args : List Argument) → Held (tree.Do (t + 1) line o args) → Taken (resumed_block line t o args)
+resumed_taken line t o args c =
+    follow (done refl refl) (follow (catch (one c) (clear refl refl)) (one (choice (stopped_taken line (t + 3) (t + 5) _ (clear refl refl)) stop)))
 
 sent_taken : (line t : ℕ) → Taken (sent_block line t)
-sent_taken line t = clear refl refl
+sent_taken line t =
+    follow (done refl refl) (one (choice (resumed_taken line t op.Next _ (done refl refl)) (follow (done refl refl) (resumed_taken line t op.Call _ (done refl refl)))))
+
+threw_taken : (line t : ℕ) → Taken (threw_block line t)
+threw_taken line t = follow (done refl refl) (follow (done refl refl) (one (choice (clear refl refl) (resumed_taken line t op.Call _ (done refl refl)))))
 
 thrown_taken : (line t : ℕ) → Taken (thrown_block line t)
-thrown_taken line t = clear refl refl
+thrown_taken line t =
+    follow (native_held (t + 8) line (codes "GeneratorExit") generator_exit) (follow (done refl refl) (one (choice (clear refl refl) (threw_taken line t))))
 
 pub delegate_taken : (line t : ℕ) (b : tree.Block) (o : Operand) → Taken b → Taken (delegate_block line t b o (sent_block line t) (thrown_block line t))
-delegate_taken line t b o c = both c (clear refl refl)
+delegate_taken line t b o c =
+    both c (follow (done refl refl) (follow (done refl refl) (follow (done refl refl) (one (choice (stopped_taken line (t + 3) (t + 5) _ (clear refl refl))
+    (follow (loop (follow (done refl refl) (follow (done refl refl) (one (choice (thrown_taken line t) (sent_taken line t)))))) (clear refl refl)))))))
+
+-- a tuple with a star
+
+tuple_name : is_among built_in_names (codes "tuple") ≡ true
+unfolding built_in_names
+tuple_name = refl
+
+pub tuple_taken : (line t : ℕ) → Taken (tuple_block line t)
+tuple_taken line t = follow (native_held (t + 1) line (codes "tuple") tuple_name) (clear refl refl)

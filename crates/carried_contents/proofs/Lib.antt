@@ -2,3 +2,5 @@ pub mod Held
 pub mod Operations
 pub mod Expressions
 pub mod Places
+pub mod Statements
+pub mod Constructs
