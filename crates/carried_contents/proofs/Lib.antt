@@ -4,3 +4,5 @@ pub mod Expressions
 pub mod Places
 pub mod Statements
 pub mod Constructs
+pub mod Codes
+pub mod Scripts

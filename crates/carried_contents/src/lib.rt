@@ -1,2 +1,18 @@
 //! What stands in the primitive statements of the codes of a script.
 #![tactic(auto)]
+
+ghost use Rattle.carried_contents.specs.Laws.{CodesAreTaken, AcceptedScriptsAreTaken};
+
+use py_accepted::accepted_scripts_are_lawful;
+
+/// In the statements of a lawful code each operation takes what it is given.
+pub fn codes_are_taken()
+    ensures { CodesAreTaken }
+{}
+
+/// So it is in the nodes of a script that keeps the static rules.
+pub fn accepted_scripts_are_taken()
+    ensures { AcceptedScriptsAreTaken }
+{
+    accepted_scripts_are_lawful();
+}
