@@ -48,16 +48,16 @@ module _ (c : Roster) (h : Homes) (r : Room) (line : ℕ) (collects : Option Op)
       let e = element h t line into inner in let i = bind h e.next x in let m = turns h i.next line e.block inner in
       over_taken line m.next e.next (local_at h 0) i.block m.block (bind_taken c h r e.next x lx) (turns_taken i.next e.block inner (element_taken t into inner l) l)
 
-made_held : (to line : ℕ) (o : Op) → MayCollect (Some o) → Held (tree.Do to line o [])
-made_held to line op.List m = done refl refl
-made_held to line op.Dict m = done refl refl
-made_held to line other m = absurd m
+made_held : (c : Roster) (to line : ℕ) (o : Op) → MayCollect c (Some o) → Held (tree.Do to line o [])
+made_held c to line op.List m = done refl refl
+made_held c to line op.Dict m = done refl refl
+made_held c to line other m = absurd m
 
-collect_taken : (c : Roster) (h : Homes) (r : Room) (t line : ℕ) (into : Option Op) (x : syntax.Target) (inner : syntax.Turns) → MayCollect into → LawfulTarget c r x → LawfulTurns c r into inner → Taken (collect h t line into x inner)
+collect_taken : (c : Roster) (h : Homes) (r : Room) (t line : ℕ) (into : Option Op) (x : syntax.Target) (inner : syntax.Turns) → MayCollect c into → LawfulTarget c r x → LawfulTurns c r into inner → Taken (collect h t line into x inner)
 unfolding gather
 collect_taken c h r t line None x inner m lx l = first_taken c h r line None t (operand.Const const.None) x inner lx l
 collect_taken c h r t line (Some o) x inner m lx l =
-    follow (made_held t line o m) (both (first_taken c h r line (Some o) (t + 1) (operand.Temp t) x inner lx l) (clear refl refl))
+    follow (made_held c t line o m) (both (first_taken c h r line (Some o) (t + 1) (operand.Temp t) x inner lx l) (clear refl refl))
 
 -- Bodies, and what stands before them
 
