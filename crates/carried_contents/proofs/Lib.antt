@@ -4,5 +4,6 @@ pub mod Expressions
 pub mod Places
 pub mod Statements
 pub mod Constructs
+pub mod Counted
 pub mod Codes
 pub mod Scripts
