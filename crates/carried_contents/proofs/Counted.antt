@@ -29,6 +29,16 @@ use Rattle.carried_codes.specs.Expressions.{puts as puts_all, function_form, fun
 use Rattle.py_meaning.specs.Syntax as syntax
 use Rattle.py_meaning.specs.Own.{Own, is_free, entry, bare, named}
 use Rattle.py_meaning.specs.Own as own
+use Rattle.nu_value.specs.declared.value.Value.TheVariants as value_is
+use Rattle.op_forms.specs.declared.signature.ArgumentKind.{ArgumentKind}
+use Rattle.op_forms.specs.declared.signature.ArgumentKind.TheVariants as kind
+use Rattle.op_forms.specs.Signature.{arguments as kinds_of}
+use Rattle.carries_values.specs.Displays.{fill_block, enter_block}
+use Rattle.carries_values.specs.Calls.{pass_block}
+use Rattle.carried_codes.specs.Operations.{given, is_call, called, does}
+use Rattle.carried_codes.specs.Expressions.{name, operate, both as either, choose, chain, starred, dict, call, function, comprehension, yield_value, delegate}
+use Rattle.carried_codes.specs.Nodes.{value, values, links, items, entries, arguments, keywords, cells_at}
+use Rattle.py_meaning.specs.Own.{name_among}
 use Rattle.carried_contents.specs.Counts.{bare_name, stand, asked}
 
 module _ (test : Op → Option (List ℕ) → Bool) where
@@ -263,3 +273,158 @@ module _ (test : Op → Option (List ℕ) → Bool) where
       (both c (follow did (skip (free refl) (follow (catch (one did) (none refl)) (one (choice (stopped_cost line (t + 3) (t + 5) _ (result_cost line (t + 3) (t + 7)))
       (follow (loop (skip (free refl) (skip (free refl) (one (choice (thrown_cost line t) (sent_cost line t)))))) (result_cost line (t + 1) (t + 7)))))))))
       (omega (arith, all))
+
+  -- Operations
+
+  abbrev operands : List Carrier → List Operand
+  operands ps = map (λ (p : Carrier). p.value) ps
+
+  abbrev NoBuiltIn : List ArgumentKind → Type 0
+  NoBuiltIn [] = Unit {0}
+  NoBuiltIn (kind.BuiltinName ∷ ks) = ⊥
+  NoBuiltIn (k ∷ ks) = NoBuiltIn ks
+
+  no_built_in : (o : Op) → is_free o ≡ false → NoBuiltIn (kinds_of o)
+  no_built_in op.Native e = cc
+  no_built_in other e = tt
+
+  is_op_call : (o : Op) → is_call o ≡ true → o ≡ op.Call
+  is_op_call op.Call e = refl
+  is_op_call other e = cc
+
+  module _ (h : Homes) where
+    given_name : (t : ℕ) (ks : List ArgumentKind) (xs : syntax.Expressions) → NoBuiltIn ks → bare_name (given ks (operands (values h t xs).parts)) ≡ name_among ks xs
+    unfolding name operate either choose chain starred dict call function comprehension yield_value delegate
+    given_name t [] syntax.NoMore p = refl
+    given_name t [] (syntax.More x xs) p = given_name (value h t x).next [] xs tt
+    given_name t (kind.Name ∷ ks) (syntax.More (syntax.Constant (value_is.Str s)) xs) p = refl
+    given_name t (kind.Name ∷ ks) (syntax.More (syntax.Starred line false ys) xs) p = given_name (value h t (syntax.Starred line false ys)).next ks xs p
+    given_name t (kind.Name ∷ ks) (syntax.More (syntax.Starred line true ys) xs) p = given_name (value h t (syntax.Starred line true ys)).next ks xs p
+    given_name t (kind.BuiltinName ∷ ks) xs p = absurd p
+    given_name t (k ∷ ks) syntax.NoMore p = refl
+    given_name t (k ∷ ks) (syntax.More x xs) p = given_name (value h t x).next ks xs p
+
+    does_other : (b : Bool) (t u line : ℕ) (o : Op) (xs : syntax.Expressions) → is_free o ≡ b → Held (tree.Do u line o (given (kinds_of o) (operands (values h t xs).parts))) (asked test (entry o (name_among (kinds_of o) xs)))
+    does_other true t u line o xs e = fewer (free (ap (λ b. if (not b && test o (bare_name (given (kinds_of o) (operands (values h t xs).parts)))) then 1 else 0) e)) (omega arith)
+    does_other false t u line o xs e = subst (λ n. Held (tree.Do u line o (given (kinds_of o) (operands (values h t xs).parts))) (asked test (entry o n))) (given_name t (kinds_of o) xs (no_built_in o e)) did
+
+    called_held : (u line : ℕ) (f : Operand) (os : List Operand) → Held (tree.Call u line f os) (asked test (bare op.Call))
+    called_held u line f os = subst (λ n. Held (tree.Call u line f os) (asked test (entry op.Call n))) (no_name_of os) (record { most = entered false op.Call (bare_name (map argument.Value os)) })
+
+    called_cost : (t u line : ℕ) (xs : syntax.Expressions) → Held (called u line (operands (values h t xs).parts)) (asked test (entry op.Call (name_among (kinds_of op.Call) xs)))
+    called_cost t u line syntax.NoMore = did
+    called_cost t u line (syntax.More x xs) = called_held u line (value h t x).part.value (operands (values h (value h t x).next xs).parts)
+
+    does_by : (b : Bool) (t u line : ℕ) (o : Op) (xs : syntax.Expressions) → is_call o ≡ b → Held (does u line o (operands (values h t xs).parts)) (asked test (entry o (name_among (kinds_of o) xs)))
+    does_by true t u line o xs e =
+        subst (λ o. Held (does u line o (operands (values h t xs).parts)) (asked test (entry o (name_among (kinds_of o) xs)))) (sym (is_op_call o e)) (called_cost t u line xs)
+    does_by false t u line o xs e =
+        subst (λ b. Held (if b then called u line (operands (values h t xs).parts) else tree.Do u line o (given (kinds_of o) (operands (values h t xs).parts))) (asked test (entry o (name_among (kinds_of o) xs)))) (sym e)
+        (does_other (is_free o) t u line o xs refl)
+
+    does_cost : (t u line : ℕ) (o : Op) (xs : syntax.Expressions) → Held (does u line o (operands (values h t xs).parts)) (asked test (entry o (name_among (kinds_of o) xs)))
+    does_cost t u line o xs = does_by (is_call o) t u line o xs refl
+
+    -- the parts of defaults, and what puts them into their dict
+    record KeywordsCost (t : ℕ) (ks : syntax.Keywords) : Type 0 where
+      parts : ℕ
+      all : ℕ
+      most : parts + all ≤ 4 * asked test (own.defaulted ks)
+      joins : (b : tree.Block) (k : ℕ) → Costs b k → Costs (joined (map (λ (n : Named). n.part) (keywords h t ks).parts) b) (parts + k)
+      puts : (line to dict : ℕ) → Costs (puts_all line dict to (keywords h t ks).parts) all
+
+    mutual
+      unfolding name operate either choose chain starred dict call function comprehension yield_value delegate
+
+      value_cost : (t : ℕ) (x : syntax.Expression) → Costs (value h t x).part.block (4 * asked test (own.expression x))
+      value_cost t (syntax.Constant v) = less stop (omega arith)
+      value_cost t (syntax.Name line home) = less (one (reads_cost h t line home)) (omega arith)
+      value_cost t (syntax.Operation line o xs) =
+          let e = split (entry o (name_among (kinds_of o) xs)) (own.each xs) in
+          less (values_cost t xs _ _ (one (does_cost t (values h t xs).next line o xs))) (omega (arith, e))
+      value_cost t (syntax.Junction line any x y) =
+          let p = value h t x in let q = value h p.next y in let e = split (own.expression x) (own.expression y) in
+          less (junction_cost line q.next any p.part q.part (value_cost t x) (value_cost p.next y)) (omega (arith, e))
+      value_cost t (syntax.Conditional line test' x y) =
+          let p = value h t x in let o = value h p.next test' in let q = value h o.next y in let e = split3 (own.expression test') (own.expression x) (own.expression y) in
+          less (if_cost line q.next o.part.block o.part.value _ _ (value_cost p.next test') (into_cost (q.next + 1) p.part (value_cost t x)) (into_cost (q.next + 1) q.part (value_cost o.next y))) (omega (arith, e))
+      value_cost t (syntax.Comparison line x ls) =
+          let p = value h t x in let qs = links h p.next ls in let e = split (own.expression x) (own.compared ls) in
+          less (both (value_cost t x) (links_cost line qs.next p.part.value p.next ls)) (omega (arith, e))
+      value_cost t (syntax.Starred line false xs) =
+          let ps = items h t xs in let e = split3 (bare op.List) (own.filled xs) [] in
+          less (follow did (fill_cost line ps.next t xs)) (omega (arith, e))
+      value_cost t (syntax.Starred line true xs) =
+          let ps = items h t xs in let e = split3 (bare op.List) (own.filled xs) (bare op.Call) in
+          less (both (follow did (fill_cost line ps.next t xs)) (skip (free refl) (one did))) (omega (arith, e))
+      value_cost t (syntax.Dict line xs) =
+          let ps = entries h t xs in let e = split (bare op.Dict) (own.entered xs) in
+          less (follow did (enter_cost line ps.next t xs)) (omega (arith, e))
+      value_cost t (syntax.Call line f xs) =
+          let p = value h t f in let ps = arguments h p.next xs in let e = split5 (own.expression f) (bare op.List) (own.passed xs) (bare op.Dict) (bare op.CallX) in
+          less (both (value_cost t f) (follow did (pass_cost line ps.next p.part.value false p.next xs))) (omega (arith, e))
+      value_cost t (syntax.Function line code xs ks cells) =
+          let ps = values h t xs in let qs = keywords h ps.next ks in
+          let c = keywords_all ps.next ks in let l = c.most in
+          let e = split3 (own.each xs) (own.defaulted ks) own.bare_function in let f = split3 (bare op.Tuple) (bare op.Dict) (bare op.Func) in
+          less (values_cost t xs _ _ (c.joins _ _ (function_cost line code ps.parts qs.parts (cells_at h cells) qs.next (c.puts line (qs.next + 2) (qs.next + 1))))) (omega (arith, e, f, l))
+      value_cost t (syntax.Comprehension line code x cells) =
+          let p = value h t x in
+          let e = split4 (own.expression x) (bare op.Iter) own.bare_function (bare op.Call) in let f = split3 (bare op.Tuple) (bare op.Dict) (bare op.Func) in
+          less (both (value_cost t x) (follow did (both (function_cost line code [] [] (cells_at h cells) (p.next + 1) stop) (one did)))) (omega (arith, e, f))
+      value_cost t (syntax.Yield line x) = less (both (value_cost t x) (none refl)) (omega arith)
+      value_cost t (syntax.YieldFrom line x) =
+          let p = value h t x in let e = split (own.expression x) own.delegates in less (delegate_cost line p.next p.part.block p.part.value (value_cost t x)) (omega (arith, e))
+
+      values_cost : (t : ℕ) (xs : syntax.Expressions) (b : tree.Block) (k : ℕ) → Costs b k → Costs (joined (values h t xs).parts b) (4 * asked test (own.each xs) + k)
+      values_cost t syntax.NoMore b k c = less c (omega arith)
+      values_cost t (syntax.More x xs) b k c =
+          let e = split (own.expression x) (own.each xs) in less (both (value_cost t x) (values_cost (value h t x).next xs b k c)) (omega (arith, e))
+
+      links_cost : (line u : ℕ) (a : Operand) (t : ℕ) (ls : syntax.Links) → Costs (links_block line u a (links h t ls).parts) (4 * asked test (own.compared ls))
+      links_cost line u a t (syntax.LastLink o negated x) =
+          let p = value h t x in let e = split (own.expression x) (bare o) in
+          less (link_cost line u a (record { op = o; negated = negated; right = p.part }) [] (value_cost t x) stop) (omega (arith, e))
+      links_cost line u a t (syntax.Link o negated x ls) =
+          let p = value h t x in let e = split3 (own.expression x) (bare o) (own.compared ls) in
+          less (link_cost line u a (record { op = o; negated = negated; right = p.part }) _ (value_cost t x) (links_cost line u p.part.value p.next ls)) (omega (arith, e))
+
+      fill_cost : (line u t : ℕ) (xs : syntax.Items) → Costs (fill_block line u (items h t xs).parts) (4 * asked test (own.filled xs))
+      fill_cost line u t syntax.NoItem = less stop (omega arith)
+      fill_cost line u t (syntax.Single x xs) =
+          let e = split3 (own.expression x) (bare op.Push) (own.filled xs) in less (both (value_cost t x) (follow did (fill_cost line u (value h t x).next xs))) (omega (arith, e))
+      fill_cost line u t (syntax.Spread x xs) =
+          let e = split3 (own.expression x) (bare op.Extend) (own.filled xs) in less (both (value_cost t x) (follow did (fill_cost line u (value h t x).next xs))) (omega (arith, e))
+
+      enter_cost : (line u t : ℕ) (xs : syntax.Entries) → Costs (enter_block line u (entries h t xs).parts) (4 * asked test (own.entered xs))
+      enter_cost line u t syntax.NoEntry = less stop (omega arith)
+      enter_cost line u t (syntax.Pair x y xs) =
+          let p = value h t x in let q = value h p.next y in let e = split4 (own.expression x) (own.expression y) (bare op.Put) (own.entered xs) in
+          less (both (value_cost t x) (both (value_cost p.next y) (follow did (enter_cost line u q.next xs)))) (omega (arith, e))
+      enter_cost line u t (syntax.Merge x xs) =
+          let e = split3 (own.expression x) (bare op.Merge) (own.entered xs) in less (both (value_cost t x) (follow did (enter_cost line u (value h t x).next xs))) (omega (arith, e))
+
+      pass_cost : (line u : ℕ) (f : Operand) (begun : Bool) (t : ℕ) (xs : syntax.Arguments) → Costs (pass_block line u f begun (arguments h t xs).parts) (4 * asked test (own.passed xs) + (dict_left begun + asked test (bare op.CallX)))
+      pass_cost line u f begun t syntax.NoArgument = less (keywords_cost line (u + 1) begun _ (one did)) (omega arith)
+      pass_cost line u f begun t (syntax.Plain x xs) =
+          let e = split3 (own.expression x) (bare op.Push) (own.passed xs) in less (both (value_cost t x) (follow did (pass_cost line u f begun (value h t x).next xs))) (omega (arith, e))
+      pass_cost line u f begun t (syntax.Star x xs) =
+          let e = split3 (own.expression x) (bare op.Extend) (own.passed xs) in less (both (value_cost t x) (follow did (pass_cost line u f begun (value h t x).next xs))) (omega (arith, e))
+      pass_cost line u f begun t (syntax.Keyword key x xs) =
+          let e = split3 (own.expression x) (bare op.KeyPut) (own.passed xs) in
+          less (keywords_cost line (u + 1) begun _ (both (value_cost t x) (follow did (pass_cost line u f true (value h t x).next xs)))) (omega (arith, e))
+      pass_cost line u f begun t (syntax.DoubleStar x xs) =
+          let e = split3 (own.expression x) (bare op.KeyMerge) (own.passed xs) in
+          less (keywords_cost line (u + 1) begun _ (both (value_cost t x) (follow did (pass_cost line u f true (value h t x).next xs)))) (omega (arith, e))
+
+      keywords_all : (t : ℕ) (ks : syntax.Keywords) → KeywordsCost t ks
+      keywords_all t syntax.NoKeyword = record { parts = 0; all = 0; most = omega arith; joins = λ b k c. less c (omega arith); puts = λ line to dict. stop }
+      keywords_all t (syntax.Default key x ks) =
+          let c = keywords_all (value h t x).next ks in let l = c.most in let e = split3 (own.expression x) (bare op.Put) (own.defaulted ks) in
+          record {
+            parts = 4 * asked test (own.expression x) + c.parts;
+            all = asked test (bare op.Put) + c.all;
+            most = omega (arith, l, e);
+            joins = λ b k d. less (both (value_cost t x) (c.joins b k d)) (omega arith);
+            puts = λ line to dict. follow did (c.puts line (to + 1) dict);
+          }
