@@ -39,6 +39,20 @@ use Rattle.carried_codes.specs.Operations.{given, is_call, called, does}
 use Rattle.carried_codes.specs.Expressions.{name, operate, both as either, choose, chain, starred, dict, call, function, comprehension, yield_value, delegate}
 use Rattle.carried_codes.specs.Nodes.{value, values, links, items, entries, arguments, keywords, cells_at}
 use Rattle.py_meaning.specs.Own.{name_among}
+use Rattle.op_forms.specs.declared.constant.Const.TheVariants as const
+use Rattle.carries_names.specs.Begun.{unset_block, filled_block, cells_block, begun_block}
+use Rattle.carries_base.specs.Frames.{behind}
+use Rattle.carries_control.specs.Tries.{try_block, clause_block}
+use Rattle.carries_targets.specs.Places.{Taker}
+use Rattle.carries_targets.specs.Targets.{items_block}
+use Rattle.carries_targets.specs.Augments.{operated_block}
+use Rattle.carried_codes.specs.Expressions.{decorate, make_class}
+use Rattle.carried_codes.specs.Places as places
+use Rattle.carried_codes.specs.Places.{assign_name, assign_attribute, assign_index, assign_each, assign_starred, delete_name, delete_attribute, delete_index, augment_name, augment_attribute, augment_index}
+use Rattle.carried_codes.specs.Clauses as clauses
+use Rattle.carried_codes.specs.Clauses.{name_clause, try_block_of}
+use Rattle.carried_codes.specs.Statements.{return_value, raise_value, raise_again, assert_that, branch, while_loop, for_loop, try_finally, with_item, push, put, emit, filter, over, gather}
+use Rattle.carried_codes.specs.Nodes.{place, all_places, bind, bind_all, decorators, bound, statement, block, except, element, turns, first_loop, collect, body, homes_of, code_nodes}
 use Rattle.carried_contents.specs.Counts.{bare_name, stand, asked}
 
 module _ (test : Op → Option (List ℕ) → Bool) where
@@ -428,3 +442,241 @@ module _ (test : Op → Option (List ℕ) → Bool) where
             joins = λ b k d. less (both (value_cost t x) (c.joins b k d)) (omega arith);
             puts = λ line to dict. follow did (c.puts line (to + 1) dict);
           }
+
+    -- Targets
+
+    mutual
+      unfolding assign_name assign_attribute assign_index assign_each assign_starred
+
+      assign_cost : (t u : ℕ) (o : Operand) (x : syntax.Target) → Costs (places.assign u o (place h t x).place).block (4 * asked test (own.assigned x))
+      assign_cost t u o (syntax.ToName line home) = less (one (stores_cost h u line home o)) (omega arith)
+      assign_cost t u o (syntax.ToAttribute line x key) = let e = split (own.expression x) (named op.SetAttr key) in less (both (value_cost t x) (one did)) (omega (arith, e))
+      assign_cost t u o (syntax.ToIndex line x y) =
+          let e = split3 (own.expression x) (own.expression y) (bare op.SetIndex) in less (both (value_cost t x) (both (value_cost (value h t x).next y) (one did))) (omega (arith, e))
+      assign_cost t u o (syntax.ToEach line xs) =
+          let e = split (bare op.Unpack) (own.unpacked xs) in less (follow did (takes_cost t (u + 1) line u 0 xs tree.Stop _ stop)) (omega (arith, e))
+      assign_cost t u o (syntax.ToStarred line before star behind') =
+          let ps = all_places h t before in let p = place h ps.next star in
+          let xs = places.takes (u + 1) ps.all in let m = places.assign (xs.next + 1) (operand.Temp xs.next) p.place in
+          let e = split5 (bare op.UnpackStar) (own.unpacked before) (bare op.Index) (own.assigned star) (own.unpacked behind') in
+          less
+          (follow did (takes_cost t (u + 1) line u 0 before _ _
+          (follow did (both (assign_cost ps.next (xs.next + 1) (operand.Temp xs.next) star) (takes_cost p.next m.next line u _ behind' tree.Stop _ stop)))))
+          (omega (arith, e))
+      assign_cost t u o syntax.ToNothing = less stop (omega arith)
+
+      takes_cost : (t u line list n : ℕ) (xs : syntax.Targets) (last : tree.Block) (k : ℕ) → Costs last k
+          → Costs (items_block line list n (places.takes u (all_places h t xs).all).parts last) (4 * asked test (own.unpacked xs) + k)
+      takes_cost t u line list n syntax.NoTarget last k c = less c (omega arith)
+      takes_cost t u line list n (syntax.AlsoTo x xs) last k c =
+          let p = place h t x in let m = places.assign (u + 1) (operand.Temp u) p.place in
+          let e = split3 (bare op.Index) (own.assigned x) (own.unpacked xs) in
+          less (follow did (both (assign_cost t (u + 1) (operand.Temp u) x) (takes_cost p.next m.next line list (n + 1) xs last k c))) (omega (arith, e))
+
+    assign_all_cost : (t u : ℕ) (o : Operand) (xs : syntax.Targets) → Costs (places.assign_all u o (all_places h t xs).all).block (4 * asked test (own.all_assigned xs))
+    assign_all_cost t u o syntax.NoTarget = less stop (omega arith)
+    assign_all_cost t u o (syntax.AlsoTo x xs) =
+        let p = place h t x in let e = split (own.assigned x) (own.all_assigned xs) in
+        less (both (assign_cost t u o x) (assign_all_cost p.next (places.assign u o p.place).next o xs)) (omega (arith, e))
+
+    mutual
+      unfolding delete_name delete_attribute delete_index
+
+      delete_cost : (t u : ℕ) (x : syntax.Target) → Costs (places.delete u (place h t x).place).block (4 * asked test (own.deleted x))
+      delete_cost t u (syntax.ToName line home) = less (unbinds_cost h u line home) (omega arith)
+      delete_cost t u (syntax.ToAttribute line x key) = let e = split (own.expression x) (named op.DelAttr key) in less (both (value_cost t x) (one did)) (omega (arith, e))
+      delete_cost t u (syntax.ToIndex line x y) =
+          let e = split3 (own.expression x) (own.expression y) (bare op.DelIndex) in less (both (value_cost t x) (both (value_cost (value h t x).next y) (one did))) (omega (arith, e))
+      delete_cost t u (syntax.ToEach line xs) = delete_all_cost t u xs
+      delete_cost t u (syntax.ToStarred line before star behind') = less stop (omega arith)
+      delete_cost t u syntax.ToNothing = less stop (omega arith)
+
+      delete_all_cost : (t u : ℕ) (xs : syntax.Targets) → Costs (places.delete_all u (all_places h t xs).all).block (4 * asked test (own.all_deleted xs))
+      delete_all_cost t u syntax.NoTarget = less stop (omega arith)
+      delete_all_cost t u (syntax.AlsoTo x xs) =
+          let p = place h t x in let e = split (own.deleted x) (own.all_deleted xs) in
+          less (both (delete_cost t u x) (delete_all_cost p.next (places.delete u p.place).next xs)) (omega (arith, e))
+
+    operated_cost : {k m : ℕ} (line t : ℕ) (o : Op) (wb : tree.Block) (b : Operand) (last : tree.Block) → Costs wb k → Costs last m → Costs (operated_block line t o wb b last) (k + (asked test (bare o) + m))
+    operated_cost line t o wb b last c d = both c (follow did d)
+
+    augment_cost : {k : ℕ} (t u line : ℕ) (o : Op) (x : syntax.Target) (q : Carrier) → Costs q.block k → Costs (places.augment u line o (place h t x).place q).block (4 * asked test (own.augmented x) + k + asked test (bare o))
+    unfolding augment_name augment_attribute augment_index
+    augment_cost t u line o (syntax.ToName at' home) q c =
+        let e = split (own.loads home) (own.stores home) in
+        less (follow (reads_cost h u at' home) (operated_cost line u o q.block q.value _ c (one (stores_cost h (u + 2) at' home (operand.Temp (u + 1)))))) (omega (arith, e))
+    augment_cost t u line o (syntax.ToAttribute at' x key) q c =
+        let e = split3 (own.expression x) (named op.Attr key) (named op.SetAttr key) in
+        less (both (value_cost t x) (follow did (operated_cost line u o q.block q.value _ c (one did)))) (omega (arith, e))
+    augment_cost t u line o (syntax.ToIndex at' x y) q c =
+        let e = split4 (own.expression x) (own.expression y) (bare op.Index) (bare op.SetIndex) in
+        less (both (value_cost t x) (both (value_cost (value h t x).next y) (follow did (operated_cost line u o q.block q.value _ c (one did))))) (omega (arith, e))
+    augment_cost t u line o (syntax.ToEach at' xs) q c = less stop (omega arith)
+    augment_cost t u line o (syntax.ToStarred at' before star behind') q c = less stop (omega arith)
+    augment_cost t u line o syntax.ToNothing q c = less stop (omega arith)
+
+    bind_cost : (t : ℕ) (x : syntax.Target) → Costs (bind h t x).block (4 * asked test (own.assigned x))
+    bind_cost t x = assign_cost (t + 1) (place h (t + 1) x).next (operand.Temp t) x
+
+    bind_all_cost : (t : ℕ) (xs : syntax.Targets) → Costs (bind_all h t xs).block (4 * asked test (own.all_assigned xs))
+    bind_all_cost t xs = assign_all_cost (t + 1) (all_places h (t + 1) xs).next (operand.Temp t) xs
+
+    -- Statements
+
+    while_cost : {k m n : ℕ} (line ov t : ℕ) (tb : tree.Block) (o : Operand) (bb ob : tree.Block) → Costs tb k → Costs bb m → Costs ob n → Costs (while_block line ov t tb o bb ob) (k + m + n)
+    while_cost line ov t tb o bb ob c d e =
+        skip (free refl) (less (follow (loop (if_cost line t tb o _ _ c (one (loop (both d (none refl)))) (none refl))) (one (choice e stop))) (omega arith))
+
+    raises_cost : (line t : ℕ) (o : Operand) → Costs (tree.Follow (tree.Do t line op.Exc (argument.Value o ∷ [])) (alone (tree.Do (t + 1) line op.Raise (of_temp t ∷ [])))) (at op.Exc + at op.Raise)
+    raises_cost line t o = follow did (one did)
+
+    assert_cost : (line t' t u : ℕ) (tb : tree.Block) (o : Operand) (xs : syntax.Expressions) {k : ℕ} → Costs tb k
+        → Costs (assert_block line u tb o (values h t xs).parts) (k + (4 * asked test (own.each xs) + (at op.Call + (at op.Exc + at op.Raise))))
+    assert_cost line t' t u tb o xs c =
+        less (if_cost line u tb o _ _ c stop (values_cost t xs _ _ (skip (free refl) (follow (did_bare (no_name (values h t xs).parts)) (raises_cost line (u + 1 + 2) (operand.Temp (u + 1 + 1))))))) (omega arith)
+
+    for_turn_cost : {k m : ℕ} (line t item : ℕ) (bd bb : tree.Block) → Costs bd k → Costs bb m → Costs (for_turn_block line t item bd bb) (at op.Next + k + m)
+    for_turn_cost line t item bd bb c d =
+        less (follow (catch (one did) (none refl)) (one (choice (stopped_cost line (t + 2) (t + 3) _ (none refl)) (one (loop (both (both c d) (none refl))))))) (omega arith)
+
+    for_cost : {k l m n : ℕ} (line t item : ℕ) (xb : tree.Block) (o : Operand) (bd bb ob : tree.Block) → Costs xb k → Costs bd l → Costs bb m → Costs ob n
+        → Costs (for_block line t item xb o bd bb ob) (k + at op.Iter + at op.Next + l + m + n)
+    for_cost line t item xb o bd bb ob c d e f =
+        less (both c (follow did (skip (free refl) (follow (loop (for_turn_cost line t item bd bb d e)) (one (choice f stop)))))) (omega arith)
+
+    over_cost : {k m : ℕ} (line t item from : ℕ) (bd bb : tree.Block) → Costs bd k → Costs bb m → Costs (over_block line t item from bd bb) (at op.Next + k + m)
+    over_cost line t item from bd bb c d =
+        skip (free refl) (skip (free refl) (less (follow (loop (for_turn_cost line t item bd bb c d)) (one (choice stop stop))) (omega arith)))
+
+    guarded_cost : {k : ℕ} (t : ℕ) (b : tree.Block) → Costs b k → Costs (guarded_block t b) k
+    guarded_cost t b c = less (follow (catch (redirected t 0 c) (none refl)) (none refl)) (omega arith)
+
+    finally_cost : {k m : ℕ} (t : ℕ) (bb lb : tree.Block) → Costs bb k → Costs lb m → Costs (finally_block t bb lb) (k + m)
+    finally_cost t bb lb c d = less (follow (loop (guarded_cost t bb c)) (both d (none refl))) (omega arith)
+
+    with_cost : {k l m : ℕ} (line t item : ℕ) (mb : tree.Block) (o : Operand) (bd bb : tree.Block) → Costs mb k → Costs bd l → Costs bb m → Costs (with_block line t item mb o bd bb) (k + l + m + 4 * asked test own.manages)
+    with_cost line t item mb o bd bb c d e =
+        let all = many own.manages in
+        less
+        (both c (follow did (follow did (follow did (follow (loop (guarded_cost t _ (both d e)))
+        (one (choice (follow did (follow did (follow did (skip (free refl) (none refl))))) (follow did (none refl)))))))))
+        (omega (arith, all))
+
+    -- Clauses
+
+    clause_cost : {k : ℕ} (at' : ℕ) (called : Option syntax.Caught) (b : tree.Block) (t : ℕ) → Costs b k → Costs (clauses.clause_body at' (bound h called) b t).block (k + asked test (own.caught called))
+    unfolding name_clause
+    clause_cost at' None b t c = less c (omega arith)
+    clause_cost at' (Some called) b t c =
+        let e = split3 (own.stores called.home) (own.stores called.home) (own.unbinds called.home) in
+        less
+        (both (one (stores_cost h t called.line called.home (operand.Temp at')))
+        (finally_cost (t + 3) b _ c (both (one (stores_cost h (t + 1) called.line called.home (operand.Const const.None))) (unbinds_cost h (t + 2) called.line called.home))))
+        (omega (arith, e))
+
+    try_cost : {k m n : ℕ} (t : ℕ) (bb hb ob : tree.Block) → Costs bb k → Costs hb m → Costs ob n → Costs (try_block t bb hb ob) (k + m + n)
+    try_cost t bb hb ob c d e = skip (free refl) (less (follow (catch c (none refl)) (one (choice d e))) (omega arith))
+
+    only_cost : {k m n : ℕ} (line x t : ℕ) (cb : tree.Block) (o : Operand) (bb rb : tree.Block) → Costs cb k → Costs bb m → Costs rb n → Costs (clause_block line x t cb o bb rb) (k + m + n)
+    only_cost line x t cb o bb rb c d e = less (both c (skip (free refl) (one (choice d e)))) (omega arith)
+
+    -- decorators, and their calls
+    record DecoratorsCost (t : ℕ) (ds : List syntax.Decorator) : Type 0 where
+      parts : ℕ
+      calls : ℕ
+      most : parts + calls ≤ 4 * asked test (own.decorated ds)
+      joins : (b : tree.Block) (k : ℕ) → Costs b k → Costs (joined (map (λ (d : Decorator). d.part) (decorators h t ds).parts) b) (parts + k)
+      called : (u : ℕ) (o : Operand) → Costs (decorated_block u (decorators h t ds).parts o) calls
+
+    decorators_all : (t : ℕ) (ds : List syntax.Decorator) → DecoratorsCost t ds
+    decorators_all t [] = record { parts = 0; calls = 0; most = omega arith; joins = λ b k c. less c (omega arith); called = λ u o. stop }
+    decorators_all t (d ∷ ds) =
+        let c = decorators_all (value h t d.is).next ds in let l = c.most in let e = split3 (own.expression d.is) (bare op.Call) (own.decorated ds) in
+        record {
+          parts = 4 * asked test (own.expression d.is) + c.parts;
+          calls = c.calls + asked test (bare op.Call);
+          most = omega (arith, l, e);
+          joins = λ b k x. less (both (value_cost t d.is) (c.joins b k x)) (omega arith);
+          called = λ u o. both (c.called u o) (one did);
+        }
+
+    again_cost : (caught : Option ℕ) (t : ℕ) → Costs (raise_again caught t).block 0
+    again_cost None t = stop
+    again_cost (Some x) t = none refl
+
+    mutual
+      unfolding return_value raise_value assert_that branch while_loop for_loop try_finally with_item decorate make_class assign_name try_block_of
+
+      statement_cost : (caught : Option ℕ) (t : ℕ) (s : syntax.Statement) → Costs (statement h caught t s).block (4 * asked test (own.statement s))
+      statement_cost caught t (syntax.Evaluate x) = value_cost t x
+      statement_cost caught t (syntax.Assign xs x) =
+          let ps = all_places h t xs in let p = value h ps.next x in let e = split (own.expression x) (own.all_assigned xs) in
+          less (both (value_cost ps.next x) (assign_all_cost t p.next p.part.value xs)) (omega (arith, e))
+      statement_cost caught t (syntax.Augment line o x y) =
+          let p = place h t x in let q = value h p.next y in let e = split3 (own.augmented x) (own.expression y) (bare o) in
+          less (augment_cost t q.next line o x q.part (value_cost p.next y)) (omega (arith, e))
+      statement_cost caught t (syntax.Delete x) = delete_cost t (place h t x).next x
+      statement_cost caught t syntax.Pass = less stop (omega arith)
+      statement_cost caught t syntax.Break = less (none refl) (omega arith)
+      statement_cost caught t syntax.Continue = less (none refl) (omega arith)
+      statement_cost caught t (syntax.Return x) = less (both (value_cost t x) (none refl)) (omega arith)
+      statement_cost caught t (syntax.Raise line x) =
+          let p = value h t x in let e = split (own.expression x) own.raise_operations in let f = split (bare op.Exc) (bare op.Raise) in
+          less (both (value_cost t x) (raises_cost line p.next p.part.value)) (omega (arith, e, f))
+      statement_cost caught t syntax.Reraise = less (again_cost caught t) (omega arith)
+      statement_cost caught t (syntax.Assert line x texts) =
+          let p = value h t x in let ps = values h p.next texts in
+          let e = split4 (own.expression x) (own.each texts) (bare op.Call) own.raise_operations in let f = split (bare op.Exc) (bare op.Raise) in
+          less (assert_cost line t p.next ps.next p.part.block p.part.value texts (value_cost t x)) (omega (arith, e, f))
+      statement_cost caught t (syntax.If line x body' other) =
+          let p = value h t x in let b = block h caught p.next body' in let d = block h caught b.next other in let e = split3 (own.expression x) (own.block body') (own.block other) in
+          less (if_cost line d.next p.part.block p.part.value b.block d.block (value_cost t x) (block_cost caught p.next body') (block_cost caught b.next other)) (omega (arith, e))
+      statement_cost caught t (syntax.While line x body' other) =
+          let p = value h t x in let b = block h caught p.next body' in let d = block h caught b.next other in let e = split3 (own.expression x) (own.block body') (own.block other) in
+          less (while_cost line d.next (d.next + 1) p.part.block p.part.value b.block d.block (value_cost t x) (block_cost caught p.next body') (block_cost caught b.next other)) (omega (arith, e))
+      statement_cost caught t (syntax.For line x over' body' other) =
+          let i = bind h t x in let p = value h i.next over' in let b = block h caught p.next body' in let d = block h caught b.next other in
+          let e = split6 (own.expression over') (bare op.Iter) (bare op.Next) (own.assigned x) (own.block body') (own.block other) in
+          less (for_cost line d.next t p.part.block p.part.value i.block b.block d.block (value_cost i.next over') (bind_cost t x) (block_cost caught p.next body') (block_cost caught b.next other)) (omega (arith, e))
+      statement_cost caught t (syntax.Try body' handlers other) =
+          let b = block h caught t body' in let cs = except h b.next handlers in let d = block h caught cs.next other in
+          let gs = clauses.guards d.next cs.parts in
+          let e = split3 (own.block body') (own.handled handlers) (own.block other) in
+          less (try_cost gs.next b.block _ d.block (block_cost caught t body') (except_cost gs.next d.next b.next handlers) (block_cost caught cs.next other)) (omega (arith, e))
+      statement_cost caught t (syntax.Finally body' last) =
+          let b = block h caught t body' in let d = block h None b.next last in let e = split (own.block body') (own.block last) in
+          less (finally_cost d.next b.block d.block (block_cost caught t body') (block_cost None b.next last)) (omega (arith, e))
+      statement_cost caught t (syntax.With line x xs body') =
+          let p = value h t x in let i = bind_all h p.next xs in let b = block h caught i.next body' in
+          let e = split4 (own.expression x) own.manages (own.all_assigned xs) (own.block body') in
+          less (with_cost line b.next p.next p.part.block p.part.value i.block b.block (value_cost t x) (bind_all_cost p.next xs) (block_cost caught i.next body')) (omega (arith, e))
+      statement_cost caught t (syntax.Define line ds f home) =
+          let ps = decorators h t ds in let p = value h ps.next f in let c = decorators_all t ds in let l = c.most in
+          let e = split3 (own.decorated ds) (own.expression f) (own.stores home) in
+          less (both (c.joins _ _ (both (value_cost ps.next f) (c.called p.next p.part.value))) (one (stores_cost h _ line home _))) (omega (arith, e, l))
+      statement_cost caught t (syntax.Class line ds key base code cells home) =
+          let ps = decorators h t ds in let p = value h ps.next base in let c = decorators_all t ds in let l = c.most in
+          let e = split6 (own.decorated ds) (own.expression base) (bare op.Space) own.bare_function (bare op.Call) (named op.Class key) in
+          let f = split (own.decorated ds ++ own.expression base ++ bare op.Space ++ own.bare_function ++ bare op.Call ++ named op.Class key) (own.stores home) in
+          let g = split3 (bare op.Tuple) (bare op.Dict) (bare op.Func) in
+          less
+          (both
+          (c.joins _ _ (both (value_cost ps.next base) (both (follow did (both (function_cost line code [] [] (cells_at h cells) (p.next + 1) stop) (follow did (one did)))) (c.called (p.next + 6) (operand.Temp (p.next + 5))))))
+          (one (stores_cost h _ line home _)))
+          (omega (arith, e, f, g, l))
+
+      block_cost : (caught : Option ℕ) (t : ℕ) (b : syntax.Block) → Costs (block h caught t b).block (4 * asked test (own.block b))
+      block_cost caught t syntax.Done = less stop (omega arith)
+      block_cost caught t (syntax.Then s rest) =
+          let e = split (own.statement s) (own.block rest) in less (both (statement_cost caught t s) (block_cost caught (statement h caught t s).next rest)) (omega (arith, e))
+
+      -- what follows the exception in x
+      except_cost : (x u t : ℕ) (hs : syntax.Handlers) → Costs (clauses.handles x (clauses.guards u (except h t hs).parts).parts) (4 * asked test (own.handled hs))
+      except_cost x u t syntax.NoHandler = less (none refl) (omega arith)
+      except_cost x u t (syntax.Bare body') = less (skip (free refl) (block_cost (Some t) (t + 1) body')) (omega arith)
+      except_cost x u t (syntax.Handler line class called body' rest) =
+          let p = value h t class in let b = block h (Some p.next) (p.next + 1) body' in
+          let e = split4 (own.expression class) (own.caught called) (own.block body') (own.handled rest) in
+          less
+          (only_cost line x _ p.part.block p.part.value _ _ (value_cost t class) (skip (free refl) (clause_cost p.next called b.block _ (block_cost (Some p.next) (p.next + 1) body'))) (except_cost x u b.next rest))
+          (omega (arith, e))
