@@ -1,5 +1,5 @@
 -- Operations stand in statements at most four times as often as the scope's own list asks for them.
-use Rattle.std.proofs.Common.{◌≡◌, ℕ, zero, suc, ◌+◌, ◌*◌, ◌≤◌, Bool, true, false, not, ◌&&◌, if◌then◌else◌, List, [], ◌∷◌, ◌++◌, map, length, Option, Some, None, codes, refl, sym, ap, ◌∙◌, subst, arith}
+use Rattle.std.proofs.Common.{◌≡◌, ℕ, zero, suc, ◌+◌, ◌-◌, ◌*◌, ◌≤◌, Bool, true, false, not, ◌&&◌, if◌then◌else◌, List, [], ◌∷◌, ◌++◌, map, length, Option, Some, None, codes, refl, sym, ap, ◌∙◌, subst, arith}
 use Rattle.op_forms.specs.declared.op.Op.{Op}
 use Rattle.op_forms.specs.declared.op.Op.TheVariants as op
 use Rattle.code_forms.specs.declared.operand.Argument.{Argument}
@@ -54,6 +54,7 @@ use Rattle.carried_codes.specs.Clauses.{name_clause, try_block_of}
 use Rattle.carried_codes.specs.Statements.{return_value, raise_value, raise_again, assert_that, branch, while_loop, for_loop, try_finally, with_item, push, put, emit, filter, over, gather}
 use Rattle.carried_codes.specs.Nodes.{place, all_places, bind, bind_all, decorators, bound, statement, block, except, element, turns, first_loop, collect, body, homes_of, code_nodes}
 use Rattle.carried_contents.specs.Counts.{bare_name, stand, asked}
+use Rattle.carried_contents.specs.Laws.{CodesAreCounted}
 
 module _ (test : Op → Option (List ℕ) → Bool) where
   abbrev counts : tree.Form → ℕ
@@ -680,3 +681,77 @@ module _ (test : Op → Option (List ℕ) → Bool) where
           less
           (only_cost line x _ p.part.block p.part.value _ _ (value_cost t class) (skip (free refl) (clause_cost p.next called b.block _ (block_cost (Some p.next) (p.next + 1) body'))) (except_cost x u b.next rest))
           (omega (arith, e))
+
+    -- Comprehensions
+
+    -- what is asked by what is collected, without its clauses
+    abbrev leaf_asked : syntax.Turns → ℕ
+    leaf_asked (syntax.Push x) = asked test (own.collected (syntax.Push x))
+    leaf_asked (syntax.Put key x) = asked test (own.collected (syntax.Put key x))
+    leaf_asked (syntax.Emit x) = asked test (own.collected (syntax.Emit x))
+    leaf_asked (syntax.Ranging x over' inner) = leaf_asked inner
+    leaf_asked (syntax.Filter x inner) = leaf_asked inner
+
+    module _ (line : ℕ) where
+      element_cost : (t : ℕ) (into : Operand) (inner : syntax.Turns) → Costs (element h t line into inner).block (4 * leaf_asked inner)
+      unfolding push put emit
+      element_cost t into (syntax.Push x) = let e = split (own.expression x) (bare op.Push) in less (both (value_cost t x) (one did)) (omega (arith, e))
+      element_cost t into (syntax.Put key x) =
+          let e = split3 (own.expression key) (own.expression x) (bare op.Put) in less (both (value_cost t key) (both (value_cost (value h t key).next x) (one did))) (omega (arith, e))
+      element_cost t into (syntax.Emit x) = less (both (value_cost t x) (none refl)) (omega arith)
+      element_cost t into (syntax.Ranging x over' inner) = element_cost t into inner
+      element_cost t into (syntax.Filter x inner) = element_cost t into inner
+
+      turns_cost : (t : ℕ) (b : tree.Block) (inner : syntax.Turns) → Costs b (4 * leaf_asked inner) → Costs (turns h t line b inner).block (4 * asked test (own.collected inner))
+      unfolding for_loop filter
+      turns_cost t b (syntax.Push x) c = c
+      turns_cost t b (syntax.Put key x) c = c
+      turns_cost t b (syntax.Emit x) c = c
+      turns_cost t b (syntax.Ranging x over' inner) c =
+          let i = bind h t x in let q = value h i.next over' in let m = turns h q.next line b inner in
+          let e = split5 (own.expression over') (bare op.Iter) (bare op.Next) (own.assigned x) (own.collected inner) in
+          less (for_cost line m.next t q.part.block q.part.value i.block m.block tree.Stop (value_cost i.next over') (bind_cost t x) (turns_cost q.next b inner c) stop) (omega (arith, e))
+      turns_cost t b (syntax.Filter x inner) c =
+          let q = value h t x in let m = turns h q.next line b inner in let e = split (own.expression x) (own.collected inner) in
+          less (if_cost line m.next q.part.block q.part.value m.block tree.Stop (value_cost t x) (turns_cost q.next b inner c) stop) (omega (arith, e))
+
+      first_cost : (t : ℕ) (into : Operand) (x : syntax.Target) (inner : syntax.Turns) → Costs (first_loop h t line into x inner) (at op.Next + 4 * asked test (own.assigned x) + 4 * asked test (own.collected inner))
+      unfolding over
+      first_cost t into x inner =
+          let e = element h t line into inner in let i = bind h e.next x in let m = turns h i.next line e.block inner in
+          over_cost line m.next e.next (local_at h 0) i.block m.block (bind_cost e.next x) (turns_cost i.next e.block inner (element_cost t into inner))
+
+    collect_cost : (t line : ℕ) (into : Option Op) (x : syntax.Target) (inner : syntax.Turns) → Costs (collect h t line into x inner) (4 * asked test (own.body (syntax.Collect line into x inner)))
+    unfolding gather
+    collect_cost t line None x inner =
+        let e = split4 [] (bare op.Next) (own.assigned x) (own.collected inner) in less (first_cost line t (operand.Const const.None) x inner) (omega (arith, e))
+    collect_cost t line (Some o) x inner =
+        let e = split4 (bare o) (bare op.Next) (own.assigned x) (own.collected inner) in
+        less (follow did (both (first_cost line (t + 1) (operand.Temp t) x inner) (none refl))) (omega (arith, e))
+
+    -- Bodies, and what stands before them
+
+    body_cost : (t : ℕ) (b : syntax.Body) → Costs (body h t b) (4 * asked test (own.body b))
+    unfolding return_value
+    body_cost t (syntax.Statements b) = block_cost None t b
+    body_cost t (syntax.Value' x) = less (both (value_cost t x) (none refl)) (omega arith)
+    body_cost t (syntax.Collect line into x inner) = collect_cost t line into x inner
+
+    filled_cost : {k : ℕ} (line t place' : ℕ) (x : Option ℕ) (b : tree.Block) → Costs b k → Costs (filled_block h line t place' x b) k
+    filled_cost line t place' None b c = c
+    filled_cost line t place' (Some at') b c = skip (free refl) c
+
+    cells_cost : {k : ℕ} (line t place' : ℕ) (xs : List (Option ℕ)) (b : tree.Block) → Costs b k → Costs (cells_block h line t place' xs b) k
+    cells_cost line t place' [] b c = c
+    cells_cost line t place' (x ∷ xs) b c = skip (free refl) (filled_cost line t place' x _ (cells_cost line t (place' + 1) xs b c))
+
+    unset_cost : {k : ℕ} (place' n : ℕ) (b : tree.Block) → Costs b k → Costs (unset_block h place' n b) k
+    unset_cost place' zero b c = c
+    unset_cost place' (suc n) b c = skip (free refl) (unset_cost (place' + 1) n b c)
+
+  code_cost : (c : syntax.Code) → Costs (code_nodes c) (4 * asked test (own.own c))
+  code_cost c =
+      let h = homes_of c in unset_cost h h.params (c.locals - h.params) _ (cells_cost h c.header.line (behind h) 0 c.owns _ (body_cost h (behind h) c.body))
+
+pub codes_counted : CodesAreCounted
+codes_counted test c = (code_cost test c).most

@@ -1,17 +1,20 @@
 -- What stands in the primitive statements of lawful codes.
-use Rattle.std.specs.Prelude.{◌≡◌, ℕ, List, [], ◌∷◌, length, Some, None, Ok}
+use Rattle.std.specs.Prelude.{◌≡◌, ℕ, ◌*◌, ◌≤◌, Bool, Option, List, [], ◌∷◌, length, Some, None, Ok}
 use Rattle.std.specs.List.{AllByRecursion}
 use Rattle.node_tree.specs.Tree as tree
 use Rattle.node_tree.specs.declared.script.NodeCode.{NodeCode}
 use Rattle.py_ast.specs.declared.scoped.Scoped.{Scoped}
 use Rattle.py_ast.specs.declared.stmt.Script.{Script}
 use Rattle.py_meaning.specs.Syntax as syntax
+use Rattle.op_forms.specs.declared.op.Op.{Op}
+use Rattle.py_meaning.specs.Own.{own}
 use Rattle.py_meaning.specs.Script.{all_codes}
 use Rattle.py_safe.specs.Rosters.{Role, Roster}
 use Rattle.py_safe.specs.Constructs.{LawfulCode}
 use Rattle.py_scopes.specs.Resolve.{Answers, AnswersBuiltIn}
 use Rattle.carried_codes.specs.Nodes.{code_nodes}
 use Rattle.carried_codes.specs.Laws.{AreMadeOf}
+use Rattle.carried_contents.specs.Counts.{stand, asked}
 use Rattle.carried_contents.specs.Taking.{refused, unnumbered}
 
 -- each operation takes what it is given, and each function has the number of its code
@@ -27,3 +30,8 @@ pub record AcceptedScriptsAreTaken : Type 0 where
   pub alone : (script : Script) (scoped : Scoped) (nodes : List NodeCode) → Answers script (Ok scoped) → AreMadeOf (all_codes scoped None) nodes → AllByRecursion IsTaken nodes
   pub with_text : (script : Script) (scoped : Scoped) (text : Script) (behind : Scoped) (nodes : List NodeCode) → Answers script (Ok scoped) → AnswersBuiltIn text (Ok behind) → AreMadeOf (all_codes scoped (Some behind)) nodes
       → AllByRecursion IsTaken nodes
+
+-- operations that aren't free stand at most four times as often as the scope's own list asks for them, by every test of operations and
+-- their bare names
+abbrev pub CodesAreCounted : Type 0
+CodesAreCounted = (test : Op → Option (List ℕ) → Bool) (c : syntax.Code) → stand test (code_nodes c) ≤ 4 * asked test (own c)

@@ -1,7 +1,7 @@
 //! What stands in the primitive statements of the codes of a script.
 #![tactic(auto)]
 
-ghost use Rattle.carried_contents.specs.Laws.{CodesAreTaken, AcceptedScriptsAreTaken};
+ghost use Rattle.carried_contents.specs.Laws.{CodesAreTaken, AcceptedScriptsAreTaken, CodesAreCounted};
 
 use py_accepted::accepted_scripts_are_lawful;
 
@@ -16,3 +16,8 @@ pub fn accepted_scripts_are_taken()
 {
     accepted_scripts_are_lawful();
 }
+
+/// Operations that aren't free stand at most four times as often as the own list of the scope asks for them.
+pub fn codes_are_counted()
+    ensures { CodesAreCounted }
+{}
