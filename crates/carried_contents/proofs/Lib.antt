@@ -5,5 +5,6 @@ pub mod Places
 pub mod Statements
 pub mod Constructs
 pub mod Counted
+pub mod Named
 pub mod Codes
 pub mod Scripts
