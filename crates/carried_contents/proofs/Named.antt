@@ -413,9 +413,27 @@ module _ (fits : List ℕ → Bool) where
 
   -- with the texts that rows write out
 
-  module _ (w : AllFit written) where
+  record Rows : Type 0 where
+    send : Fit (codes "send")
+    close : Fit (codes "close")
+    throw : Fit (codes "throw")
+    result : Fit (codes "value")
+    tuple : Fit (codes "tuple")
+    stops : Fit (codes "StopIteration")
+    exits : Fit (codes "GeneratorExit")
+    fails : Fit (codes "AssertionError")
+    enter : Fit (codes "__enter__")
+    leave : Fit (codes "__exit__")
+
+  rows_of : AllFit written → Rows
+  rows_of w = record {
+    send = w.1.0; close = w.1.1.0; throw = w.1.1.1.0; result = w.1.1.1.1.0; tuple = w.1.1.1.1.1.0; stops = w.1.1.1.1.1.1.1.0;
+    exits = w.1.1.1.1.1.1.1.1.0; fails = w.1.1.1.1.1.1.1.1.1.0; enter = w.1.1.1.1.1.1.1.1.1.1.0; leave = w.1.1.1.1.1.1.1.1.1.1.1.0;
+  }
+
+  module _ (w : Rows) where
     stopped_fine : (line x t : ℕ) (over : tree.Block) → Fine over → Fine (stopped_block line x t over)
-    stopped_fine line x t over c = follow (did (w.7, tt)) (follow (done refl refl) (one (choice c (clear refl refl))))
+    stopped_fine line x t over c = follow (did (w.stops, tt)) (follow (done refl refl) (one (choice c (clear refl refl))))
 
     resumed_fine : (line t : ℕ) (o : Op) (args : List Argument) → Held (tree.Do (t + 1) line o args) → Fine (resumed_block line t o args)
     resumed_fine line t o args c =
@@ -423,24 +441,24 @@ module _ (fits : List ℕ → Bool) where
 
     sent_fine : (line t : ℕ) → Fine (sent_block line t)
     sent_fine line t =
-        follow (done refl refl) (one (choice (resumed_fine line t op.Next _ (done refl refl)) (follow (did (tt, (w.1, tt))) (resumed_fine line t op.Call _ (done refl refl)))))
+        follow (done refl refl) (one (choice (resumed_fine line t op.Next _ (done refl refl)) (follow (did (tt, (w.send, tt))) (resumed_fine line t op.Call _ (done refl refl)))))
 
     closed_fine : (line t : ℕ) → Fine (closed_block line t)
-    closed_fine line t = follow (did (tt, (w.2, tt))) (follow (done refl refl) (one (choice (clear refl refl) (clear refl refl))))
+    closed_fine line t = follow (did (tt, (w.close, tt))) (follow (done refl refl) (one (choice (clear refl refl) (clear refl refl))))
 
     threw_fine : (line t : ℕ) → Fine (threw_block line t)
-    threw_fine line t = follow (did (tt, (w.3, tt))) (follow (done refl refl) (one (choice (clear refl refl) (resumed_fine line t op.Call _ (done refl refl)))))
+    threw_fine line t = follow (did (tt, (w.throw, tt))) (follow (done refl refl) (one (choice (clear refl refl) (resumed_fine line t op.Call _ (done refl refl)))))
 
     thrown_fine : (line t : ℕ) → Fine (thrown_block line t)
-    thrown_fine line t = follow (did (w.8, tt)) (follow (done refl refl) (one (choice (closed_fine line t) (threw_fine line t))))
+    thrown_fine line t = follow (did (w.exits, tt)) (follow (done refl refl) (one (choice (closed_fine line t) (threw_fine line t))))
 
     delegate_fine : (line t : ℕ) (p : Carrier) → Part p → Fine (delegate_block line t p.block p.value (sent_block line t) (thrown_block line t))
     delegate_fine line t p c =
-        both c.0 (follow (did (c.1, tt)) (follow (done refl refl) (follow (done refl refl) (one (choice (stopped_fine line (t + 3) (t + 5) _ (one (did (tt, (w.4, tt)))))
-        (follow (loop (follow (done refl refl) (follow (done refl refl) (one (choice (thrown_fine line t) (sent_fine line t)))))) (one (did (tt, (w.4, tt))))))))))
+        both c.0 (follow (did (c.1, tt)) (follow (done refl refl) (follow (done refl refl) (one (choice (stopped_fine line (t + 3) (t + 5) _ (one (did (tt, (w.result, tt)))))
+        (follow (loop (follow (done refl refl) (follow (done refl refl) (one (choice (thrown_fine line t) (sent_fine line t)))))) (one (did (tt, (w.result, tt))))))))))
 
     tuple_fine : (line t : ℕ) → Fine (tuple_block line t)
-    tuple_fine line t = follow (did (w.5, tt)) (clear refl refl)
+    tuple_fine line t = follow (did (w.tuple, tt)) (clear refl refl)
 
     -- Targets
 
@@ -526,7 +544,7 @@ module _ (fits : List ℕ → Bool) where
     assert_fine : (line t : ℕ) (p : Carrier) (ps : List Carrier) → Part p → AllParts ps → Fine (assert_block line t p.block p.value ps)
     assert_fine line t p ps c d =
         if_fine line t p.block p.value _ _ c.0 c.1 stop
-        (all_joined ps _ d (follow (did (w.9, tt)) (follow (did (tt, arguments_fit ps d)) (raise_fine line (t + 1 + 2) (operand.Temp (t + 1 + 1)) tt))))
+        (all_joined ps _ d (follow (did (w.fails, tt)) (follow (did (tt, arguments_fit ps d)) (raise_fine line (t + 1 + 2) (operand.Temp (t + 1 + 1)) tt))))
 
     for_turn_fine : (line t item : ℕ) (bd bb : tree.Block) → Fine bd → Fine bb → Fine (for_turn_block line t item bd bb)
     for_turn_fine line t item bd bb c d =
@@ -547,7 +565,7 @@ module _ (fits : List ℕ → Bool) where
 
     with_fine : (line t item : ℕ) (p : Carrier) (bd bb : tree.Block) → Part p → Fine bd → Fine bb → Fine (with_block line t item p.block p.value bd bb)
     with_fine line t item p bd bb c d e =
-        both c.0 (follow (did (c.1, (w.10, tt))) (follow (did (c.1, (w.11, tt))) (follow (done refl refl) (follow (loop (guarded_fine t _ (both d e))) (clear refl refl)))))
+        both c.0 (follow (did (c.1, (w.enter, tt))) (follow (did (c.1, (w.leave, tt))) (follow (done refl refl) (follow (loop (guarded_fine t _ (both d e))) (clear refl refl)))))
 
     -- Clauses
 
