@@ -49,6 +49,12 @@ use Rattle.carried_codes.specs.Seats.{Seat, Local, Own, Free, Module, Space, sea
 use Rattle.carried_codes.specs.Expressions.{puts as puts_all, function_form, function_block, decorated_at, decorated_block, class_block}
 use Rattle.carried_codes.specs.Places.{Place, Name, Attribute, Index, Each, Starred, Nothing, Places, NoPlace, Also, count, assign_name, assign_attribute, assign_index, assign_each, assign_starred, assign, takes, assign_all, delete_name, delete_attribute, delete_index, delete, delete_all, augment_name, augment_attribute, augment_index, augment}
 use Rattle.carried_codes.specs.Clauses.{Bound, Clause, Bare, Class, Guard, Any, Only, name_clause, clause_body, guard, guards, handle, handles, try_block_of, try_except}
+use Rattle.py_ast.specs.declared.scoped.NameHome.{NameHome}
+use Rattle.carried_codes.specs.Expressions.{name, operate, both as either, choose, chain, starred, dict, call, function, comprehension, yield_value, delegate, decorate, make_class}
+use Rattle.carried_codes.specs.Statements.{return_value, raise_value, raise_again, assert_that, branch, while_loop, for_loop, try_finally, with_item, push, put, emit, filter, over, gather}
+use Rattle.carried_codes.specs.Nodes.{value, values, links, items, entries, arguments, keywords, cells_at, place, all_places, bind, bind_all, decorators, bound, statement, block, except, element, turns, first_loop, collect, body, homes_of, code_nodes}
+use Rattle.std.specs.Prelude.{slice_get}
+use Rattle.carried_contents.specs.Laws.{CodesAreNamed}
 use Rattle.carried_contents.specs.Naming.{names_fit, text_fits, other_names, other_texts}
 
 pub halves : (P : List ℕ → Type 0) (xs ys : List (List ℕ)) → AllByRecursion P (xs ++ ys) → AllByRecursion P xs × AllByRecursion P ys
@@ -610,3 +616,248 @@ module _ (fits : List ℕ → Bool) where
     try_except_fine t body cs other c d e =
         let gs = guards t cs in
         follow (done refl refl) (follow (catch c (clear refl refl)) (one (choice (handles_fine gs.next gs.parts (guards_fine t cs d)) e)))
+
+    module _ (inner : ℕ → Option syntax.Code) (h : Homes) where
+      constant_fits : (v : Value) → AllFit (texts.constant v) → ConstFits (const_of v)
+      constant_fits (value_is.Str x) p = p.0
+      constant_fits other p = tt
+
+      mutual
+        unfolding name operate either choose chain starred dict call function comprehension yield_value delegate
+
+        value_fine : (t : ℕ) (x : syntax.Expression) → AllFit (texts.expression inner x) → Part (value h t x).part
+        value_fine t (syntax.Constant v) p = (stop, constant_fits v p)
+        value_fine t (syntax.Name line home) p = (one (reads_held t line (seat h home) (seat_fits h home p)), tt)
+        value_fine t (syntax.Operation line o xs) p =
+            let ps = values h t xs in let c = values_fine t xs p in (all_joined ps.parts _ c (one (does_held ps.next line o (operands ps.parts) (operands_fit ps.parts c))), tt)
+        value_fine t (syntax.Junction line any x y) p =
+            let s = two (texts.expression inner x) (texts.expression inner y) p in
+            let a = value h t x in let b = value h a.next y in (junction_fine line b.next any a.part b.part (value_fine t x s.0) (value_fine a.next y s.1), tt)
+        value_fine t (syntax.Conditional line test x y) p =
+            let s = three (texts.expression inner test) (texts.expression inner x) (texts.expression inner y) p in
+            let a = value h t x in let o = value h a.next test in let b = value h o.next y in let c = value_fine a.next test s.0 in
+            (if_fine line b.next o.part.block o.part.value _ _ c.0 c.1 (into_fine (b.next + 1) a.part (value_fine t x s.1)) (into_fine (b.next + 1) b.part (value_fine o.next y s.2)), tt)
+        value_fine t (syntax.Comparison line x ls) p =
+            let s = two (texts.expression inner x) (texts.compared inner ls) p in
+            let a = value h t x in let qs = links h a.next ls in let c = value_fine t x s.0 in
+            (both c.0 (links_fine line qs.next a.part.value qs.parts c.1 (links_parts a.next ls s.1)), tt)
+        value_fine t (syntax.Starred line false xs) p = let ps = items h t xs in (follow (done refl refl) (fill_fine line ps.next ps.parts (items_parts t xs p)), tt)
+        value_fine t (syntax.Starred line true xs) p =
+            let ps = items h t xs in (both (follow (done refl refl) (fill_fine line ps.next ps.parts (items_parts t xs p))) (tuple_fine line ps.next), tt)
+        value_fine t (syntax.Dict line xs) p = let ps = entries h t xs in (follow (done refl refl) (enter_fine line ps.next ps.parts (entries_parts t xs p)), tt)
+        value_fine t (syntax.Call line f xs) p =
+            let s = two (texts.expression inner f) (texts.passed inner xs) p in
+            let a = value h t f in let ps = arguments h a.next xs in let c = value_fine t f s.0 in
+            (both c.0 (follow (done refl refl) (pass_fine line ps.next a.part.value false ps.parts c.1 (arguments_parts a.next xs s.1))), tt)
+        value_fine t (syntax.Function line code xs ks cells) p =
+            let s = three (texts.each inner xs) (texts.defaulted inner ks) (texts.parameters_of (inner code)) p in
+            let ps = values h t xs in let qs = keywords h ps.next ks in let c = values_fine t xs s.0 in let d = keywords_parts ps.next ks s.1 in
+            (all_joined ps.parts _ c (all_joined _ _ (named_parts qs.parts d) (function_fine line code ps.parts qs.parts (cells_at h cells) qs.next c d)), tt)
+        value_fine t (syntax.Comprehension line code x cells) p =
+            let a = value h t x in let c = value_fine t x p in
+            (both c.0 (follow (did (c.1, tt)) (both (function_fine line code [] [] (cells_at h cells) (a.next + 1) tt tt) (clear refl refl))), tt)
+        value_fine t (syntax.Yield line x) p = let c = value_fine t x p in (both c.0 (one (yields c.1)), tt)
+        value_fine t (syntax.YieldFrom line x) p = let a = value h t x in (delegate_fine line a.next a.part (value_fine t x p), tt)
+
+        values_fine : (t : ℕ) (xs : syntax.Expressions) → AllFit (texts.each inner xs) → AllParts (values h t xs).parts
+        values_fine t syntax.NoMore p = tt
+        values_fine t (syntax.More x xs) p = let s = two (texts.expression inner x) (texts.each inner xs) p in (value_fine t x s.0, values_fine (value h t x).next xs s.1)
+
+        links_parts : (t : ℕ) (ls : syntax.Links) → AllFit (texts.compared inner ls) → AllByRecursion (λ (x : Linked). Part x.right) (links h t ls).parts
+        links_parts t (syntax.LastLink o negated x) p = (value_fine t x p, tt)
+        links_parts t (syntax.Link o negated x ls) p = let s = two (texts.expression inner x) (texts.compared inner ls) p in (value_fine t x s.0, links_parts (value h t x).next ls s.1)
+
+        items_parts : (t : ℕ) (xs : syntax.Items) → AllFit (texts.filled inner xs) → AllByRecursion ItemFine (items h t xs).parts
+        items_parts t syntax.NoItem p = tt
+        items_parts t (syntax.Single x xs) p = let s = two (texts.expression inner x) (texts.filled inner xs) p in (value_fine t x s.0, items_parts (value h t x).next xs s.1)
+        items_parts t (syntax.Spread x xs) p = let s = two (texts.expression inner x) (texts.filled inner xs) p in (value_fine t x s.0, items_parts (value h t x).next xs s.1)
+
+        entries_parts : (t : ℕ) (xs : syntax.Entries) → AllFit (texts.entered inner xs) → AllByRecursion EntryFine (entries h t xs).parts
+        entries_parts t syntax.NoEntry p = tt
+        entries_parts t (syntax.Pair x y xs) p =
+            let s = three (texts.expression inner x) (texts.expression inner y) (texts.entered inner xs) p in
+            let a = value h t x in let b = value h a.next y in ((value_fine t x s.0, value_fine a.next y s.1), entries_parts b.next xs s.2)
+        entries_parts t (syntax.Merge x xs) p = let s = two (texts.expression inner x) (texts.entered inner xs) p in (value_fine t x s.0, entries_parts (value h t x).next xs s.1)
+
+        arguments_parts : (t : ℕ) (xs : syntax.Arguments) → AllFit (texts.passed inner xs) → AllByRecursion PassedFine (arguments h t xs).parts
+        arguments_parts t syntax.NoArgument p = tt
+        arguments_parts t (syntax.Plain x xs) p = let s = two (texts.expression inner x) (texts.passed inner xs) p in (value_fine t x s.0, arguments_parts (value h t x).next xs s.1)
+        arguments_parts t (syntax.Star x xs) p = let s = two (texts.expression inner x) (texts.passed inner xs) p in (value_fine t x s.0, arguments_parts (value h t x).next xs s.1)
+        arguments_parts t (syntax.Keyword key x xs) p =
+            let s = two (texts.expression inner x) (texts.passed inner xs) p.1 in ((p.0, value_fine t x s.0), arguments_parts (value h t x).next xs s.1)
+        arguments_parts t (syntax.DoubleStar x xs) p = let s = two (texts.expression inner x) (texts.passed inner xs) p in (value_fine t x s.0, arguments_parts (value h t x).next xs s.1)
+
+        keywords_parts : (t : ℕ) (ks : syntax.Keywords) → AllFit (texts.defaulted inner ks) → AllByRecursion NamedFine (keywords h t ks).parts
+        keywords_parts t syntax.NoKeyword p = tt
+        keywords_parts t (syntax.Default key x ks) p =
+            let s = two (texts.expression inner x) (texts.defaulted inner ks) p.1 in ((p.0, value_fine t x s.0), keywords_parts (value h t x).next ks s.1)
+
+      mutual
+        place_fine : (t : ℕ) (x : syntax.Target) → AllFit (texts.target inner x) → PlaceFine (place h t x).place
+        place_fine t (syntax.ToName line home) p = seat_fits h home p
+        place_fine t (syntax.ToAttribute line x key) p = (value_fine t x p.1, p.0)
+        place_fine t (syntax.ToIndex line x y) p = let s = two (texts.expression inner x) (texts.expression inner y) p in (value_fine t x s.0, value_fine (value h t x).next y s.1)
+        place_fine t (syntax.ToEach line xs) p = places_fine t xs p
+        place_fine t (syntax.ToStarred line xs star ys) p =
+            let s = three (texts.targets inner xs) (texts.target inner star) (texts.targets inner ys) p in
+            let ps = all_places h t xs in let q = place h ps.next star in (places_fine t xs s.0, place_fine ps.next star s.1, places_fine q.next ys s.2)
+        place_fine t syntax.ToNothing p = tt
+
+        places_fine : (t : ℕ) (xs : syntax.Targets) → AllFit (texts.targets inner xs) → PlacesFine (all_places h t xs).all
+        places_fine t syntax.NoTarget p = tt
+        places_fine t (syntax.AlsoTo x xs) p = let s = two (texts.target inner x) (texts.targets inner xs) p in (place_fine t x s.0, places_fine (place h t x).next xs s.1)
+
+      bind_fine : (t : ℕ) (x : syntax.Target) → AllFit (texts.target inner x) → Fine (bind h t x).block
+      bind_fine t x p = let q = place h (t + 1) x in assign_fine q.next (operand.Temp t) q.place (place_fine (t + 1) x p) tt
+
+      bind_all_fine : (t : ℕ) (xs : syntax.Targets) → AllFit (texts.targets inner xs) → Fine (bind_all h t xs).block
+      bind_all_fine t xs p = let q = all_places h (t + 1) xs in assign_all_fine q.next (operand.Temp t) q.all (places_fine (t + 1) xs p) tt
+
+      decorators_fine : (t : ℕ) (ds : List syntax.Decorator) → AllFit (texts.decorated inner ds) → AllParts (map (λ (d : Decorator). d.part) (decorators h t ds).parts)
+      decorators_fine t [] p = tt
+      decorators_fine t (d ∷ ds) p = let s = two (texts.expression inner d.is) (texts.decorated inner ds) p in (value_fine t d.is s.0, decorators_fine (value h t d.is).next ds s.1)
+
+      bound_fine : (called' : Option syntax.Caught) → AllFit (texts.caught inner called') → BoundFine (bound h called')
+      bound_fine None p = tt
+      bound_fine (Some called') p = seat_fits h called'.home p
+
+      again_fine : (caught : Option ℕ) (t : ℕ) → Fine (raise_again caught t).block
+      again_fine None t = stop
+      again_fine (Some x) t = clear refl refl
+
+      mutual
+        unfolding return_value raise_value assert_that branch while_loop for_loop try_finally with_item decorate make_class assign_name
+
+        statement_fine : (caught : Option ℕ) (t : ℕ) (s : syntax.Statement) → AllFit (texts.statement inner s) → Fine (statement h caught t s).block
+        statement_fine caught t (syntax.Evaluate x) p = (value_fine t x p).0
+        statement_fine caught t (syntax.Assign xs x) p =
+            let s = two (texts.expression inner x) (texts.targets inner xs) p in
+            let ps = all_places h t xs in let a = value h ps.next x in let c = value_fine ps.next x s.0 in both c.0 (assign_all_fine a.next a.part.value ps.all (places_fine t xs s.1) c.1)
+        statement_fine caught t (syntax.Augment line o x y) p =
+            let s = two (texts.target inner x) (texts.expression inner y) p in
+            let a = place h t x in let b = value h a.next y in augment_fine b.next line o a.place b.part (place_fine t x s.0) (value_fine a.next y s.1)
+        statement_fine caught t (syntax.Delete x) p = let a = place h t x in delete_fine a.next a.place (place_fine t x p)
+        statement_fine caught t syntax.Pass p = stop
+        statement_fine caught t syntax.Break p = clear refl refl
+        statement_fine caught t syntax.Continue p = clear refl refl
+        statement_fine caught t (syntax.Return x) p = let c = value_fine t x p in both c.0 (one (returns c.1))
+        statement_fine caught t (syntax.Raise line x) p = let a = value h t x in let c = value_fine t x p in both c.0 (raise_fine line a.next a.part.value c.1)
+        statement_fine caught t syntax.Reraise p = again_fine caught t
+        statement_fine caught t (syntax.Assert line x xs) p =
+            let s = two (texts.expression inner x) (texts.each inner xs) p in
+            let a = value h t x in let ps = values h a.next xs in assert_fine line ps.next a.part ps.parts (value_fine t x s.0) (values_fine a.next xs s.1)
+        statement_fine caught t (syntax.If line x body' other) p =
+            let s = three (texts.expression inner x) (texts.block inner body') (texts.block inner other) p in
+            let a = value h t x in let b = block h caught a.next body' in let d = block h caught b.next other in let c = value_fine t x s.0 in
+            if_fine line d.next a.part.block a.part.value b.block d.block c.0 c.1 (block_fine caught a.next body' s.1) (block_fine caught b.next other s.2)
+        statement_fine caught t (syntax.While line x body' other) p =
+            let s = three (texts.expression inner x) (texts.block inner body') (texts.block inner other) p in
+            let a = value h t x in let b = block h caught a.next body' in let d = block h caught b.next other in
+            while_fine line d.next (d.next + 1) a.part b.block d.block (value_fine t x s.0) (block_fine caught a.next body' s.1) (block_fine caught b.next other s.2)
+        statement_fine caught t (syntax.For line x over' body' other) p =
+            let s = four (texts.expression inner over') (texts.target inner x) (texts.block inner body') (texts.block inner other) p in
+            let i = bind h t x in let a = value h i.next over' in let b = block h caught a.next body' in let d = block h caught b.next other in
+            for_fine line d.next t a.part i.block b.block d.block (value_fine i.next over' s.0) (bind_fine t x s.1) (block_fine caught a.next body' s.2) (block_fine caught b.next other s.3)
+        statement_fine caught t (syntax.Try body' handlers other) p =
+            let s = three (texts.block inner body') (texts.handled inner handlers) (texts.block inner other) p in
+            let b = block h caught t body' in let cs = except h b.next handlers in let d = block h caught cs.next other in
+            try_except_fine d.next b.block cs.parts d.block (block_fine caught t body' s.0) (except_fine b.next handlers s.1) (block_fine caught cs.next other s.2)
+        statement_fine caught t (syntax.Finally body' last) p =
+            let s = two (texts.block inner body') (texts.block inner last) p in
+            let b = block h caught t body' in let d = block h None b.next last in finally_fine d.next b.block d.block (block_fine caught t body' s.0) (block_fine None b.next last s.1)
+        statement_fine caught t (syntax.With line x xs body') p =
+            let s = three (texts.expression inner x) (texts.targets inner xs) (texts.block inner body') p in
+            let a = value h t x in let i = bind_all h a.next xs in let b = block h caught i.next body' in
+            with_fine line b.next a.next a.part i.block b.block (value_fine t x s.0) (bind_all_fine a.next xs s.1) (block_fine caught i.next body' s.2)
+        statement_fine caught t (syntax.Define line ds f home) p =
+            let s = three (texts.decorated inner ds) (texts.expression inner f) (texts.home home) p in
+            let ps = decorators h t ds in let a = value h ps.next f in let c = decorators_fine t ds s.0 in let d = value_fine ps.next f s.1 in
+            both (all_joined _ _ c (both d.0 (decorated_fine a.next ps.parts a.part.value c d.1))) (one (stores_held _ line (seat h home) _ (seat_fits h home s.2) (at_fits a.next ps.parts a.part.value d.1)))
+        statement_fine caught t (syntax.Class line ds key base code cells home) p =
+            let s = three (texts.decorated inner ds) (texts.expression inner base) (key ∷ texts.home home) p in
+            let ps = decorators h t ds in let a = value h ps.next base in let c = decorators_fine t ds s.0 in let d = value_fine ps.next base s.1 in let n = s.2 in
+            both
+            (all_joined _ _ c (both d.0 (both (class_fine line code key (cells_at h cells) a.part.value a.next n.0 d.1) (decorated_fine (a.next + 6) ps.parts (operand.Temp (a.next + 5)) c tt))))
+            (one (stores_held _ line (seat h home) _ (seat_fits h home n.1) (at_fits (a.next + 6) ps.parts (operand.Temp (a.next + 5)) tt)))
+
+        block_fine : (caught : Option ℕ) (t : ℕ) (b : syntax.Block) → AllFit (texts.block inner b) → Fine (block h caught t b).block
+        block_fine caught t syntax.Done p = stop
+        block_fine caught t (syntax.Then s rest) p =
+            let q = two (texts.statement inner s) (texts.block inner rest) p in both (statement_fine caught t s q.0) (block_fine caught (statement h caught t s).next rest q.1)
+
+        except_fine : (t : ℕ) (hs : syntax.Handlers) → AllFit (texts.handled inner hs) → AllByRecursion ClauseFine (except h t hs).parts
+        except_fine t syntax.NoHandler p = tt
+        except_fine t (syntax.Bare body') p = (block_fine (Some t) (t + 1) body' p, tt)
+        except_fine t (syntax.Handler line class called' body' rest) p =
+            let s = four (texts.expression inner class) (texts.caught inner called') (texts.block inner body') (texts.handled inner rest) p in
+            let a = value h t class in let b = block h (Some a.next) (a.next + 1) body' in
+            ((value_fine t class s.0, bound_fine called' s.1, block_fine (Some a.next) (a.next + 1) body' s.2), except_fine b.next rest s.3)
+
+      -- Comprehensions
+
+      module _ (line : ℕ) where
+        element_fine : (t : ℕ) (into : Operand) (x : syntax.Turns) → OperandFits into → AllFit (texts.collected inner x) → Fine (element h t line into x).block
+        unfolding push put emit
+        element_fine t into (syntax.Push x) f p = let c = value_fine t x p in both c.0 (one (did (f, (c.1, tt))))
+        element_fine t into (syntax.Put k x) f p =
+            let s = two (texts.expression inner k) (texts.expression inner x) p in
+            let c = value_fine t k s.0 in let d = value_fine (value h t k).next x s.1 in both c.0 (both d.0 (one (did (f, (c.1, (d.1, tt))))))
+        element_fine t into (syntax.Emit x) f p = let c = value_fine t x p in both c.0 (one (yields c.1))
+        element_fine t into (syntax.Ranging x over' more) f p =
+            let s = three (texts.expression inner over') (texts.target inner x) (texts.collected inner more) p in element_fine t into more f s.2
+        element_fine t into (syntax.Filter x more) f p = let s = two (texts.expression inner x) (texts.collected inner more) p in element_fine t into more f s.1
+
+        turns_fine : (t : ℕ) (b : tree.Block) (x : syntax.Turns) → Fine b → AllFit (texts.collected inner x) → Fine (turns h t line b x).block
+        unfolding for_loop filter
+        turns_fine t b (syntax.Push x) c p = c
+        turns_fine t b (syntax.Put k x) c p = c
+        turns_fine t b (syntax.Emit x) c p = c
+        turns_fine t b (syntax.Ranging x over' more) c p =
+            let s = three (texts.expression inner over') (texts.target inner x) (texts.collected inner more) p in
+            let i = bind h t x in let q = value h i.next over' in let m = turns h q.next line b more in
+            for_fine line m.next t q.part i.block m.block tree.Stop (value_fine i.next over' s.0) (bind_fine t x s.1) (turns_fine q.next b more c s.2) stop
+        turns_fine t b (syntax.Filter x more) c p =
+            let s = two (texts.expression inner x) (texts.collected inner more) p in
+            let q = value h t x in let m = turns h q.next line b more in let d = value_fine t x s.0 in
+            if_fine line m.next q.part.block q.part.value m.block tree.Stop d.0 d.1 (turns_fine q.next b more c s.1) stop
+
+        first_fine : (t : ℕ) (into : Operand) (x : syntax.Target) (more : syntax.Turns) → OperandFits into → AllFit (texts.target inner x) → AllFit (texts.collected inner more) → Fine (first_loop h t line into x more)
+        unfolding over
+        first_fine t into x more f p q =
+            let e = element h t line into more in let i = bind h e.next x in let m = turns h i.next line e.block more in
+            over_fine line m.next e.next (local_at h 0) i.block m.block (bind_fine e.next x p) (turns_fine i.next e.block more (element_fine t into more f q) q)
+
+      collect_fine : (t line : ℕ) (into : Option Op) (x : syntax.Target) (more : syntax.Turns) → AllFit (texts.target inner x) → AllFit (texts.collected inner more) → Fine (collect h t line into x more)
+      unfolding gather
+      collect_fine t line None x more p q = first_fine line t (operand.Const const.None) x more tt p q
+      collect_fine t line (Some o) x more p q = follow (did tt) (both (first_fine line (t + 1) (operand.Temp t) x more tt p q) (clear refl refl))
+
+      -- Bodies, and what stands before them
+
+      body_fine : (t : ℕ) (b : syntax.Body) → AllFit (texts.body inner b) → Fine (body h t b)
+      unfolding return_value
+      body_fine t (syntax.Statements b) p = block_fine None t b p
+      body_fine t (syntax.Value' x) p = let c = value_fine t x p in both c.0 (one (returns c.1))
+      body_fine t (syntax.Collect line into x more) p = let s = two (texts.target inner x) (texts.collected inner more) p in collect_fine t line into x more s.0 s.1
+
+    filled_fine : (h : Homes) (line t at : ℕ) (x : Option ℕ) (b : tree.Block) → Fine b → Fine (filled_block h line t at x b)
+    filled_fine h line t at None b c = c
+    filled_fine h line t at (Some there) b c = follow (done refl refl) c
+
+    cells_fine : (h : Homes) (line t at : ℕ) (xs : List (Option ℕ)) (b : tree.Block) → Fine b → Fine (cells_block h line t at xs b)
+    cells_fine h line t at [] b c = c
+    cells_fine h line t at (x ∷ xs) b c = follow (done refl refl) (filled_fine h line t at x _ (cells_fine h line t (at + 1) xs b c))
+
+    unset_fine : (h : Homes) (at n : ℕ) (b : tree.Block) → Fine b → Fine (unset_block h at n b)
+    unset_fine h at zero b c = c
+    unset_fine h at (suc n) b c = follow (done refl refl) (unset_fine h (at + 1) n b c)
+
+  code_fine : (cs : List syntax.Code) (names : List NameHome) (c : syntax.Code) → AllFit (texts.texts cs names c) → Fine (code_nodes c)
+  code_fine cs names c p =
+      let h = homes_of c in let inner : ℕ → Option syntax.Code = λ n. slice_get cs n in
+      let s = four written (map (λ (n : NameHome). n.name) names) (map (λ p. p.1) c.header.params) (texts.body inner c.body) p in
+      let w = rows_of s.0 in
+      unset_fine w h h.params (c.locals - h.params) _ (cells_fine w h c.header.line (behind h) 0 c.owns _ (body_fine w inner h (behind h) c.body s.3))
+
+pub codes_named : CodesAreNamed
+codes_named fits cs names c p = let r = code_fine fits cs names c p in (r.names, r.texts)

@@ -1,5 +1,5 @@
 -- What stands in the primitive statements of lawful codes.
-use Rattle.std.specs.Prelude.{◌≡◌, ℕ, ◌*◌, ◌≤◌, Bool, Option, List, [], ◌∷◌, length, Some, None, Ok}
+use Rattle.std.specs.Prelude.{◌≡◌, ℕ, ◌*◌, ◌≤◌, Bool, true, Option, List, [], ◌∷◌, length, Some, None, Ok}
 use Rattle.std.specs.List.{AllByRecursion}
 use Rattle.node_tree.specs.Tree as tree
 use Rattle.node_tree.specs.declared.script.NodeCode.{NodeCode}
@@ -7,7 +7,9 @@ use Rattle.py_ast.specs.declared.scoped.Scoped.{Scoped}
 use Rattle.py_ast.specs.declared.stmt.Script.{Script}
 use Rattle.py_meaning.specs.Syntax as syntax
 use Rattle.op_forms.specs.declared.op.Op.{Op}
+use Rattle.py_ast.specs.declared.scoped.NameHome.{NameHome}
 use Rattle.py_meaning.specs.Own.{own}
+use Rattle.py_meaning.specs.Texts.{texts}
 use Rattle.py_meaning.specs.Script.{all_codes}
 use Rattle.py_safe.specs.Rosters.{Role, Roster}
 use Rattle.py_safe.specs.Constructs.{LawfulCode}
@@ -15,6 +17,7 @@ use Rattle.py_scopes.specs.Resolve.{Answers, AnswersBuiltIn}
 use Rattle.carried_codes.specs.Nodes.{code_nodes}
 use Rattle.carried_codes.specs.Laws.{AreMadeOf}
 use Rattle.carried_contents.specs.Counts.{stand, asked}
+use Rattle.carried_contents.specs.Naming.{other_names, other_texts}
 use Rattle.carried_contents.specs.Taking.{refused, unnumbered}
 
 -- each operation takes what it is given, and each function has the number of its code
@@ -35,3 +38,8 @@ pub record AcceptedScriptsAreTaken : Type 0 where
 -- their bare names
 abbrev pub CodesAreCounted : Type 0
 CodesAreCounted = (test : Op → Option (List ℕ) → Bool) (c : syntax.Code) → stand test (code_nodes c) ≤ 4 * asked test (own c)
+
+-- bare names and text constants are texts of the scope: what all its texts pass, they pass
+abbrev pub CodesAreNamed : Type 0
+CodesAreNamed = (fits : List ℕ → Bool) (codes : List syntax.Code) (names : List NameHome) (c : syntax.Code) → AllByRecursion (λ text. fits text ≡ true) (texts codes names c)
+    → (other_names fits (code_nodes c) ≡ 0) × (other_texts fits (code_nodes c) ≡ 0)

@@ -1,7 +1,7 @@
 //! What stands in the primitive statements of the codes of a script.
 #![tactic(auto)]
 
-ghost use Rattle.carried_contents.specs.Laws.{CodesAreTaken, AcceptedScriptsAreTaken, CodesAreCounted};
+ghost use Rattle.carried_contents.specs.Laws.{CodesAreTaken, AcceptedScriptsAreTaken, CodesAreCounted, CodesAreNamed};
 
 use py_accepted::accepted_scripts_are_lawful;
 
@@ -20,4 +20,9 @@ pub fn accepted_scripts_are_taken()
 /// Operations that aren't free stand at most four times as often as the own list of the scope asks for them.
 pub fn codes_are_counted()
     ensures { CodesAreCounted }
+{}
+
+/// Bare names and text constants are texts of the scope.
+pub fn codes_are_named()
+    ensures { CodesAreNamed }
 {}
