@@ -1,5 +1,5 @@
 -- Lawful codes become statements whose operations take what they are given.
-use Rattle.std.proofs.Common.{◌≡◌, ℕ, zero, suc, ◌+◌, ◌-◌, true, false, List, [], ◌∷◌, length, Option, Some, None, refl}
+use Rattle.std.proofs.Common.{ℕ, zero, suc, ◌+◌, ◌-◌, false, List, [], ◌∷◌, Option, Some, None, refl}
 use Rattle.op_forms.specs.declared.constant.Const.TheVariants as const
 use Rattle.op_forms.specs.declared.op.Op.{Op}
 use Rattle.op_forms.specs.declared.op.Op.TheVariants as op
@@ -10,11 +10,11 @@ use Rattle.py_meaning.specs.Syntax as syntax
 use Rattle.py_safe.specs.Rosters.{Role, Roster}
 use Rattle.py_safe.specs.Constructs.{Room, room_of, MayCollect, LawfulTarget, LawfulTurns, LawfulBody, LawfulCode}
 use Rattle.carries_base.specs.Frames.{Homes, local_at, behind}
-use Rattle.carries_names.specs.Begun.{unset_block, filled_block, cells_block, begun_block}
+use Rattle.carries_names.specs.Begun.{unset_block, filled_block, cells_block}
 use Rattle.carried_codes.specs.Statements.{return_value, for_loop, push, put, emit, filter, over, gather}
 use Rattle.carried_codes.specs.Nodes.{value, bind, element, turns, first_loop, collect, body, homes_of, code_nodes}
 use Rattle.carried_contents.specs.Laws.{CodesAreTaken}
-use Rattle.carried_contents.proofs.Held.{Held, Taken, stop, follow, one, both, done, clear}
+use Rattle.carried_contents.proofs.Held.{Held, Taken, stop, follow, both, done, clear}
 use Rattle.carried_contents.proofs.Expressions.{if_taken}
 use Rattle.carried_contents.proofs.Statements.{for_taken, over_taken}
 use Rattle.carried_contents.proofs.Constructs.{value_taken, bind_taken, block_taken}

@@ -1,11 +1,8 @@
 -- Lawful constructs become statements whose operations take what they are given: by induction over the constructs.
-use Rattle.std.proofs.Common.{◌≡◌, ℕ, ◌+◌, Bool, true, false, List, [], ◌∷◌, map, Option, Some, None, refl}
+use Rattle.std.proofs.Common.{ℕ, ◌+◌, Bool, true, false, List, [], ◌∷◌, map, Option, Some, None, refl}
 use Rattle.std.specs.List.{AllByRecursion}
-use Rattle.op_forms.specs.declared.op.Op.{Op}
 use Rattle.op_forms.specs.declared.signature.ArgumentKind.{ArgumentKind}
-use Rattle.code_forms.specs.declared.operand.Operand.{Operand}
 use Rattle.code_forms.specs.declared.operand.Operand.TheVariants as operand
-use Rattle.node_tree.specs.Blocks as tree
 use Rattle.py_meaning.specs.Syntax as syntax
 use Rattle.py_safe.specs.Rosters.{Roster}
 use Rattle.py_safe.specs.Constructs.{Room, in_clause, outside_clause, LawfulExpression, LawfulOperands, LawfulLinks, LawfulItems, LawfulEntries, LawfulArguments, LawfulKeywords, LawfulTarget, LawfulTargets, LawfulDeletion, LawfulDeletions, LawfulDecorators, LawfulStatement, LawfulBlock, LawfulHandlers}
@@ -14,7 +11,6 @@ use Rattle.carries_base.specs.Carries.{Carrier}
 use Rattle.carried_codes.specs.Parts.{Named, Decorator}
 use Rattle.carried_codes.specs.Expressions.{name, operate, both, choose, chain, starred, dict, call, function, comprehension, yield_value, delegate, decorate, make_class}
 use Rattle.carried_codes.specs.Places.{assign_name}
-use Rattle.carried_codes.specs.Places as places
 use Rattle.carried_codes.specs.Statements.{return_value, raise_value, raise_again, assert_that, branch, while_loop, for_loop, try_finally, with_item}
 use Rattle.carried_codes.specs.Seats.{seat}
 use Rattle.carried_codes.specs.Nodes.{cells_at, value, values, links, items, entries, arguments, keywords, place, all_places, bind, bind_all, decorators, statement, block, except}

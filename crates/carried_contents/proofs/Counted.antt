@@ -1,5 +1,5 @@
 -- Operations stand in statements at most four times as often as the scope's own list asks for them.
-use Rattle.std.proofs.Common.{◌≡◌, ℕ, zero, suc, ◌+◌, ◌-◌, ◌*◌, ◌≤◌, Bool, true, false, not, ◌&&◌, if◌then◌else◌, List, [], ◌∷◌, ◌++◌, map, length, Option, Some, None, codes, refl, sym, ap, ◌∙◌, subst, arith}
+use Rattle.std.proofs.Common.{◌≡◌, ℕ, zero, suc, ◌+◌, ◌-◌, ◌*◌, ◌≤◌, Bool, true, false, not, ◌&&◌, if◌then◌else◌, List, [], ◌∷◌, ◌++◌, map, Option, Some, None, codes, refl, sym, ap, subst, arith}
 use Rattle.op_forms.specs.declared.op.Op.{Op}
 use Rattle.op_forms.specs.declared.op.Op.TheVariants as op
 use Rattle.code_forms.specs.declared.operand.Argument.{Argument}
@@ -24,8 +24,8 @@ use Rattle.carries_definitions.specs.Delegated.{delegate_block}
 use Rattle.carries_definitions.specs.Told.{resumed_block, sent_block, closed_block, threw_block, thrown_block}
 use Rattle.carries_definitions.specs.Collected.{over_block}
 use Rattle.carried_codes.specs.Parts.{Named, Decorator}
-use Rattle.carried_codes.specs.Seats.{Seat, seat, reads, stores, unbinds}
-use Rattle.carried_codes.specs.Expressions.{puts as puts_all, function_form, function_block, decorated_block, class_block}
+use Rattle.carried_codes.specs.Seats.{seat, reads, stores, unbinds}
+use Rattle.carried_codes.specs.Expressions.{puts as puts_all, function_block, decorated_block}
 use Rattle.py_meaning.specs.Syntax as syntax
 use Rattle.py_meaning.specs.Own.{Own, is_free, entry, bare, named}
 use Rattle.py_meaning.specs.Own as own
@@ -40,10 +40,9 @@ use Rattle.carried_codes.specs.Expressions.{name, operate, both as either, choos
 use Rattle.carried_codes.specs.Nodes.{value, values, links, items, entries, arguments, keywords, cells_at}
 use Rattle.py_meaning.specs.Own.{name_among}
 use Rattle.op_forms.specs.declared.constant.Const.TheVariants as const
-use Rattle.carries_names.specs.Begun.{unset_block, filled_block, cells_block, begun_block}
+use Rattle.carries_names.specs.Begun.{unset_block, filled_block, cells_block}
 use Rattle.carries_base.specs.Frames.{behind}
 use Rattle.carries_control.specs.Tries.{try_block, clause_block}
-use Rattle.carries_targets.specs.Places.{Taker}
 use Rattle.carries_targets.specs.Targets.{items_block}
 use Rattle.carries_targets.specs.Augments.{operated_block}
 use Rattle.carried_codes.specs.Expressions.{decorate, make_class}
@@ -98,7 +97,6 @@ module _ (test : Op → Option (List ℕ) → Bool) where
   unfolding asked
   split [] ys = omega arith
   split (x ∷ xs) ys = let e = split xs ys in omega (arith, e)
-
 
   split3 : (a b c : List Own) → asked test (a ++ b ++ c) ≡ asked test a + asked test b + asked test c
   split3 a b c = let e = split (a ++ b) c in let f = split a b in omega (arith, e, f)

@@ -1,5 +1,5 @@
 -- The blocks of expressions, of the blocks of their parts.
-use Rattle.std.proofs.Common.{ℕ, ◌+◌, Bool, true, false, List, [], ◌∷◌, map, length, not, if◌then◌else◌, Option, Some, codes, ◌&&◌, ◌≡◌, refl, ap}
+use Rattle.std.proofs.Common.{ℕ, ◌+◌, Bool, true, false, List, [], ◌∷◌, map, length, not, if◌then◌else◌, Some, codes, ◌&&◌, ◌≡◌, refl, ap}
 use Rattle.std.specs.List.{AllByRecursion}
 use Rattle.nu_text.specs.Names.{is_among, built_in_names}
 use Rattle.op_forms.specs.declared.op.Op.{Op}
@@ -8,16 +8,15 @@ use Rattle.op_forms.specs.declared.signature.ArgumentKind.TheVariants as kind
 use Rattle.code_forms.specs.declared.operand.Argument.{Argument}
 use Rattle.code_forms.specs.declared.operand.Argument.TheVariants as argument
 use Rattle.code_forms.specs.declared.operand.Operand.{Operand}
-use Rattle.code_forms.specs.declared.operand.Operand.TheVariants as operand
 use Rattle.code_forms.specs.Taking.{all_taken}
 use Rattle.node_tree.specs.Blocks.{alone, of_temp}
 use Rattle.node_tree.specs.Blocks as tree
-use Rattle.py_safe.specs.Constructs.{TakesTwo, MayNegate}
-use Rattle.carries_base.specs.Carries.{Carrier, joined}
+use Rattle.py_safe.specs.Constructs.{TakesTwo}
+use Rattle.carries_base.specs.Carries.{Carrier}
 use Rattle.carries_base.specs.Laws.{if_block}
 use Rattle.carries_control.specs.Raises.{stopped_block}
 use Rattle.carries_values.specs.Parts.{into, moved}
-use Rattle.carries_values.specs.Choices.{Linked, junction_block, conditional_block, compared_block, further_block, links_block, comparison_block}
+use Rattle.carries_values.specs.Choices.{Linked, junction_block, conditional_block, compared_block, links_block, comparison_block}
 use Rattle.carries_values.specs.Displays.{Item, Entry, added_block, fill_block, enter_block, list_block, tuple_block, dict_block}
 use Rattle.carries_values.specs.Displays as displays
 use Rattle.carries_values.specs.Calls.{Passed, keywords_block, key_block, pass_block, call_block}
@@ -27,7 +26,7 @@ use Rattle.carries_definitions.specs.Told.{resumed_block, sent_block, threw_bloc
 use Rattle.carried_codes.specs.Parts.{Named, Decorator}
 use Rattle.carried_codes.specs.Seats.{Seat, Local, Own, Free, Module, Space, reads, stores, unbinds}
 use Rattle.carried_codes.specs.Expressions.{puts, function_form, function_block, decorated_block, class_block}
-use Rattle.carried_contents.proofs.Held.{Held, Taken, AllTaken, stop, follow, one, both, choice, loop, catch, stored, all_joined, done, clear}
+use Rattle.carried_contents.proofs.Held.{Held, Taken, stop, follow, one, both, choice, loop, catch, stored, done, clear}
 use Rattle.carried_contents.proofs.Operations.{two_held}
 
 -- Names

@@ -1,7 +1,6 @@
 -- Blocks whose operations all take what they are given, put together.
-use Rattle.std.proofs.Common.{◌≡◌, ℕ, zero, suc, ◌+◌, Bool, not, List, [], ◌∷◌, Option, Some, None, refl, arith}
+use Rattle.std.proofs.Common.{◌≡◌, ℕ, zero, suc, Bool, not, List, [], ◌∷◌, Option, Some, None, refl, arith}
 use Rattle.std.specs.List.{AllByRecursion}
-use Rattle.op_forms.specs.declared.constant.Const.{Const}
 use Rattle.op_forms.specs.declared.op.Op.{Op}
 use Rattle.code_forms.specs.declared.operand.Argument.{Argument}
 use Rattle.code_forms.specs.declared.operand.Operand.{Operand}
@@ -9,7 +8,7 @@ use Rattle.code_forms.specs.declared.operand.Operand.TheVariants as operand
 use Rattle.code_forms.specs.Taking.{is_taken}
 use Rattle.node_tree.specs.Blocks.{alone, puts}
 use Rattle.node_tree.specs.Blocks as tree
-use Rattle.node_tree.specs.Contents.{form_total, total, form_operations}
+use Rattle.node_tree.specs.Contents.{form_total, form_operations}
 use Rattle.node_tree.proofs.Direct.{total_append}
 use Rattle.node_redirect.specs.Redirect.{redirect_form, redirect, leaves, leaves_by, outward}
 use Rattle.carries_base.specs.Carries.{Carrier, joined}

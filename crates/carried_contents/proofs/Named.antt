@@ -1,5 +1,5 @@
 -- Names and text constants in statements are the scope's own.
-use Rattle.std.proofs.Common.{◌≡◌, ℕ, zero, suc, ◌+◌, ◌-◌, Bool, true, false, not, ◌&&◌, if◌then◌else◌, List, [], ◌∷◌, ◌++◌, map, length, Option, Some, None, codes, refl, sym, ap, ◌∙◌, subst, arith}
+use Rattle.std.proofs.Common.{◌≡◌, ℕ, zero, suc, ◌+◌, ◌-◌, Bool, true, false, not, ◌&&◌, if◌then◌else◌, List, [], ◌∷◌, ◌++◌, map, Option, Some, None, codes, refl, sym, ap, subst, arith}
 use Rattle.std.specs.List.{AllByRecursion}
 use Rattle.nu_value.specs.declared.value.Value.{Value}
 use Rattle.nu_value.specs.declared.value.Value.TheVariants as value_is
@@ -16,7 +16,7 @@ use Rattle.code_forms.specs.declared.operand.Operand.TheVariants as operand
 use Rattle.code_forms.specs.Contents.{operand_constants, arguments_constants}
 use Rattle.node_tree.specs.Blocks.{alone, puts, of_temp}
 use Rattle.node_tree.specs.Blocks as tree
-use Rattle.node_tree.specs.Contents.{form_total, total, form_operations, form_constants}
+use Rattle.node_tree.specs.Contents.{form_total, form_operations, form_constants}
 use Rattle.node_tree.proofs.Direct.{total_append}
 use Rattle.node_redirect.specs.Redirect.{redirect_form, redirect, leaves, leaves_by, outward}
 use Rattle.py_meaning.specs.Texts.{written}
@@ -25,7 +25,7 @@ use Rattle.carried_codes.specs.Operations.{is_name, argument_of, given, is_call,
 use Rattle.carried_codes.specs.Constants.{const_of}
 use Rattle.carries_base.specs.Frames.{Homes, local_at, behind}
 use Rattle.carries_base.specs.Laws.{if_block, while_block}
-use Rattle.carries_names.specs.Begun.{unset_block, filled_block, cells_block, begun_block}
+use Rattle.carries_names.specs.Begun.{unset_block, filled_block, cells_block}
 use Rattle.carries_values.specs.Parts.{into, moved}
 use Rattle.carries_values.specs.Choices.{Linked, junction_block, compared_block, links_block}
 use Rattle.carries_values.specs.Displays.{Item, Entry, fill_block, enter_block, tuple_block}
@@ -34,7 +34,6 @@ use Rattle.carries_values.specs.Calls.{Passed, keywords_block, pass_block}
 use Rattle.carries_values.specs.Calls as calls
 use Rattle.carries_control.specs.Raises.{raise_block, stopped_block, assert_block}
 use Rattle.carries_control.specs.Loops.{for_turn_block, for_block}
-use Rattle.carries_control.specs.Tries.{try_block, clause_block}
 use Rattle.carries_control.specs.Finish.{guarded_block, finally_block, with_block}
 use Rattle.carries_targets.specs.Places.{Taker}
 use Rattle.carries_targets.specs.Targets.{items_block}
@@ -46,7 +45,7 @@ use Rattle.py_meaning.specs.Syntax as syntax
 use Rattle.py_meaning.specs.Texts as texts
 use Rattle.carried_codes.specs.Parts.{Named, Decorator}
 use Rattle.carried_codes.specs.Seats.{Seat, Local, Own, Free, Module, Space, seat, reads, stores, unbinds}
-use Rattle.carried_codes.specs.Expressions.{puts as puts_all, function_form, function_block, decorated_at, decorated_block, class_block}
+use Rattle.carried_codes.specs.Expressions.{puts as puts_all, function_block, decorated_at, decorated_block, class_block}
 use Rattle.carried_codes.specs.Places.{Place, Name, Attribute, Index, Each, Starred, Nothing, Places, NoPlace, Also, count, assign_name, assign_attribute, assign_index, assign_each, assign_starred, assign, takes, assign_all, delete_name, delete_attribute, delete_index, delete, delete_all, augment_name, augment_attribute, augment_index, augment}
 use Rattle.carried_codes.specs.Clauses.{Bound, Clause, Bare, Class, Guard, Any, Only, name_clause, clause_body, guard, guards, handle, handles, try_block_of, try_except}
 use Rattle.py_ast.specs.declared.scoped.NameHome.{NameHome}
@@ -433,8 +432,16 @@ module _ (fits : List ℕ → Bool) where
 
   rows_of : AllFit written → Rows
   rows_of w = record {
-    send = w.1.0; close = w.1.1.0; throw = w.1.1.1.0; result = w.1.1.1.1.0; tuple = w.1.1.1.1.1.0; stops = w.1.1.1.1.1.1.1.0;
-    exits = w.1.1.1.1.1.1.1.1.0; fails = w.1.1.1.1.1.1.1.1.1.0; enter = w.1.1.1.1.1.1.1.1.1.1.0; leave = w.1.1.1.1.1.1.1.1.1.1.1.0;
+    send = w.1.0;
+    close = w.1.1.0;
+    throw = w.1.1.1.0;
+    result = w.1.1.1.1.0;
+    tuple = w.1.1.1.1.1.0;
+    stops = w.1.1.1.1.1.1.1.0;
+    exits = w.1.1.1.1.1.1.1.1.0;
+    fails = w.1.1.1.1.1.1.1.1.1.0;
+    enter = w.1.1.1.1.1.1.1.1.1.1.0;
+    leave = w.1.1.1.1.1.1.1.1.1.1.1.0;
   }
 
   module _ (w : Rows) where

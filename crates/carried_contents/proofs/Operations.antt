@@ -1,6 +1,5 @@
 -- Operations take what lawful operands give.
-use Rattle.std.proofs.Common.{◌≡◌, ℕ, ◌+◌, Bool, true, false, not, ◌&&◌, if◌then◌else◌, List, [], ◌∷◌, map, Option, Some, None, refl, sym, ap, ◌∙◌, subst}
-use Rattle.nu_value.specs.declared.value.Value.{Value}
+use Rattle.std.proofs.Common.{◌≡◌, ℕ, Bool, true, false, not, ◌&&◌, if◌then◌else◌, List, [], ◌∷◌, map, Option, Some, None, refl, sym, ap, ◌∙◌, subst}
 use Rattle.nu_value.specs.declared.value.Value.TheVariants as value
 use Rattle.op_forms.specs.declared.op.Op.{Op}
 use Rattle.op_forms.specs.declared.op.Op.TheVariants as op
@@ -19,8 +18,8 @@ use Rattle.carries_base.specs.Frames.{Homes}
 use Rattle.carries_base.specs.Carries.{Carrier}
 use Rattle.carried_codes.specs.Operations.{is_name, argument_of, given, is_call, called, does}
 use Rattle.carried_codes.specs.Nodes.{value, values}
-use Rattle.carried_contents.specs.Taking.{is_function, has_number, is_numbered}
-use Rattle.carried_contents.proofs.Held.{refuses, unnumbers, Held, done}
+use Rattle.carried_contents.specs.Taking.{is_function, has_number}
+use Rattle.carried_contents.proofs.Held.{Held, done}
 
 abbrev operands : List Carrier → List Operand
 operands ps = map (λ (p : Carrier). p.value) ps
@@ -107,5 +106,5 @@ pub two_held : (t line : ℕ) (o : Op) (a b : Operand) → TakesTwo o → Held (
 two_held t line o a b w =
     let args : List Argument = argument.Value a ∷ argument.Value b ∷ [] in
     let e : is_taken o args ≡ true =
-        ap (λ ks. all_taken ks (further o) args) w.two ∙ ap (λ more. all_taken (kind.Value ∷ kind.Value ∷ []) more args) w.only in
+    ap (λ ks. all_taken ks (further o) args) w.two ∙ ap (λ more. all_taken (kind.Value ∷ kind.Value ∷ []) more args) w.only in
     given_held t line o args e (function_no_two o w.two)

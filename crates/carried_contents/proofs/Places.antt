@@ -9,10 +9,10 @@ use Rattle.node_tree.specs.Blocks as tree
 use Rattle.py_safe.specs.Constructs.{TakesTwo}
 use Rattle.carries_base.specs.Carries.{Carrier}
 use Rattle.carries_targets.specs.Places.{Taker}
-use Rattle.carries_targets.specs.Targets.{items_block, each_block, starred_block}
+use Rattle.carries_targets.specs.Targets.{items_block}
 use Rattle.carries_targets.specs.Augments.{operated_block}
 use Rattle.carried_codes.specs.Places.{Place, Name, Attribute, Index, Each, Starred, Nothing, Places, NoPlace, Also, count, assign_name, assign_attribute, assign_index, assign_each, assign_starred, assign, takes, assign_all, delete_name, delete_attribute, delete_index, delete, delete_all, augment_name, augment_attribute, augment_index, augment}
-use Rattle.carried_contents.proofs.Held.{Held, Taken, stop, follow, one, both, done, clear}
+use Rattle.carried_contents.proofs.Held.{Taken, stop, follow, one, both, done, clear}
 use Rattle.carried_contents.proofs.Operations.{two_held}
 use Rattle.carried_contents.proofs.Expressions.{reads_held, stores_held, unbinds_taken}
 

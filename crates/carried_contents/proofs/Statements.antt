@@ -3,25 +3,21 @@ use Rattle.std.proofs.Common.{◌≡◌, ℕ, ◌+◌, true, List, [], ◌∷◌
 use Rattle.std.specs.List.{AllByRecursion}
 use Rattle.nu_text.specs.Names.{is_among, built_in_names}
 use Rattle.op_forms.specs.declared.constant.Const.TheVariants as const
-use Rattle.op_forms.specs.declared.op.Op.{Op}
 use Rattle.op_forms.specs.declared.op.Op.TheVariants as op
 use Rattle.op_forms.specs.declared.signature.ArgumentKind.TheVariants as kind
-use Rattle.code_forms.specs.declared.operand.Argument.{Argument}
 use Rattle.code_forms.specs.declared.operand.Argument.TheVariants as argument
 use Rattle.code_forms.specs.declared.operand.Operand.{Operand}
 use Rattle.code_forms.specs.declared.operand.Operand.TheVariants as operand
 use Rattle.code_forms.specs.Taking.{all_taken}
 use Rattle.node_tree.specs.Blocks.{alone}
 use Rattle.node_tree.specs.Blocks as tree
-use Rattle.carries_base.specs.Carries.{Carrier, joined}
+use Rattle.carries_base.specs.Carries.{Carrier}
 use Rattle.carries_base.specs.Laws.{while_block}
-use Rattle.carries_control.specs.Raises.{raise_block, assert_block}
+use Rattle.carries_control.specs.Raises.{assert_block}
 use Rattle.carries_control.specs.Loops.{for_turn_block, for_block}
-use Rattle.carries_control.specs.Tries.{try_block, clause_block}
+use Rattle.carries_control.specs.Tries.{try_block}
 use Rattle.carries_control.specs.Finish.{guarded_block, finally_block, with_block}
 use Rattle.carries_definitions.specs.Collected.{over_block}
-use Rattle.carried_codes.specs.Parts.{Made}
-use Rattle.carried_codes.specs.Seats.{Seat}
 use Rattle.carried_codes.specs.Clauses.{Bound, Clause, Bare, Class, Guard, Any, Only, name_clause, clause_body, guard, guards, handle, handles, try_block_of, try_except}
 use Rattle.carried_contents.proofs.Held.{Held, Taken, AllTaken, stop, follow, one, both, choice, loop, catch, all_joined, redirected, done, clear}
 use Rattle.carried_contents.proofs.Expressions.{stores_held, unbinds_taken, if_taken, native_held, stopped_taken}

@@ -1,5 +1,5 @@
 -- How often operations stand in statements, with their bare names, and how often a scope's own list asks for them.
-use Rattle.std.specs.Prelude.{ℕ, ◌+◌, Bool, true, not, ◌&&◌, if◌then◌else◌, List, [], ◌∷◌, Option, Some, None}
+use Rattle.std.specs.Prelude.{ℕ, ◌+◌, Bool, not, ◌&&◌, if◌then◌else◌, List, [], ◌∷◌, Option, Some, None}
 use Rattle.op_forms.specs.declared.op.Op.{Op}
 use Rattle.code_forms.specs.declared.operand.Argument.{Argument}
 use Rattle.code_forms.specs.declared.operand.Argument.TheVariants as argument

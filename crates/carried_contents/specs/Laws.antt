@@ -1,5 +1,5 @@
 -- What stands in the primitive statements of lawful codes.
-use Rattle.std.specs.Prelude.{◌≡◌, ℕ, ◌*◌, ◌≤◌, Bool, true, Option, List, [], ◌∷◌, length, Some, None, Ok}
+use Rattle.std.specs.Prelude.{◌≡◌, ℕ, ◌*◌, ◌≤◌, Bool, true, Option, List, Some, None, Ok}
 use Rattle.std.specs.List.{AllByRecursion}
 use Rattle.node_tree.specs.Tree as tree
 use Rattle.node_tree.specs.declared.script.NodeCode.{NodeCode}

@@ -1,5 +1,5 @@
 -- Which operations no C text has: those that don't take what they are given, and functions whose code is no constant.
-use Rattle.std.specs.Prelude.{ℕ, pos, List, [], ◌∷◌, Bool, true, false, not, ◌&&◌, if◌then◌else◌}
+use Rattle.std.specs.Prelude.{ℕ, pos, List, ◌∷◌, Bool, true, false, not, if◌then◌else◌}
 use Rattle.op_forms.specs.declared.constant.Const.TheVariants as const
 use Rattle.op_forms.specs.declared.op.Op.{Op}
 use Rattle.op_forms.specs.declared.op.Op.TheVariants as op
