@@ -1,4 +1,4 @@
--- Which operations no C text has: those that don't take what they are given, and functions whose code is no constant.
+-- How many operations don't take what they are given, and how many functions have a code that is no number.
 use Rattle.std.specs.Prelude.{ℕ, pos, List, ◌∷◌, Bool, true, false, not, if◌then◌else◌}
 use Rattle.op_forms.specs.declared.constant.Const.TheVariants as const
 use Rattle.op_forms.specs.declared.op.Op.{Op}
