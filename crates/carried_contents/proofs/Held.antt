@@ -17,97 +17,97 @@ use Rattle.carried_contents.specs.Taking.{refused, unnumbered, is_numbered}
 abbrev pub refuses : Op → List Argument → Bool
 refuses o args = not (is_taken o args)
 
-abbrev pub unnumbers : Op → List Argument → Bool
-unnumbers o args = not (is_numbered o args)
+abbrev pub unnumbers : (ℕ → Bool) → Op → List Argument → Bool
+unnumbers inside o args = not (is_numbered inside o args)
 
 -- a statement, with those inside, and a block
-pub record Held (x : tree.Form) : Type 0 where
+pub record Held (inside : ℕ → Bool) (x : tree.Form) : Type 0 where
   pub taken : form_total (form_operations refuses) x ≡ 0
-  pub numbered : form_total (form_operations unnumbers) x ≡ 0
+  pub numbered : form_total (form_operations (unnumbers inside)) x ≡ 0
 
-pub record Taken (b : tree.Block) : Type 0 where
+pub record Taken (inside : ℕ → Bool) (b : tree.Block) : Type 0 where
   pub taken : refused b ≡ 0
-  pub numbered : unnumbered b ≡ 0
+  pub numbered : unnumbered inside b ≡ 0
 
-abbrev pub AllTaken : List Carrier → Type 0
-AllTaken ps = AllByRecursion (λ (p : Carrier). Taken p.block) ps
+abbrev pub AllTaken : (ℕ → Bool) → List Carrier → Type 0
+AllTaken inside ps = AllByRecursion (λ (p : Carrier). Taken inside p.block) ps
 
-pub stop : Taken tree.Stop
+pub stop : {inside : ℕ → Bool} → Taken inside tree.Stop
 stop = record { taken = refl; numbered = refl }
 
-pub follow : {x : tree.Form} {r : tree.Block} → Held x → Taken r → Taken (tree.Follow x r)
+pub follow : {inside : ℕ → Bool} {x : tree.Form} {r : tree.Block} → Held inside x → Taken inside r → Taken inside (tree.Follow x r)
 follow h t =
     let a = h.taken in let b = t.taken in let c = h.numbered in let d = t.numbered in
     record { taken = omega (arith, a, b); numbered = omega (arith, c, d) }
 
-pub one : {x : tree.Form} → Held x → Taken (alone x)
+pub one : {inside : ℕ → Bool} {x : tree.Form} → Held inside x → Taken inside (alone x)
 one h = follow h stop
 
-pub both : {b c : tree.Block} → Taken b → Taken c → Taken (tree.append b c)
-both {b} {c} p q =
-    let e = total_append (form_operations refuses) b c in let f = total_append (form_operations unnumbers) b c in
+pub both : {inside : ℕ → Bool} {b c : tree.Block} → Taken inside b → Taken inside c → Taken inside (tree.append b c)
+both {inside} {b} {c} p q =
+    let e = total_append (form_operations refuses) b c in let f = total_append (form_operations (unnumbers inside)) b c in
     let x = p.taken in let y = q.taken in let z = p.numbered in let w = q.numbered in
     record { taken = omega (arith, e, x, y); numbered = omega (arith, f, z, w) }
 
-pub choice : {a : Operand} {y n : tree.Block} → Taken y → Taken n → Held (tree.If a y n)
+pub choice : {inside : ℕ → Bool} {a : Operand} {y n : tree.Block} → Taken inside y → Taken inside n → Held inside (tree.If a y n)
 choice p q =
     let x = p.taken in let y = q.taken in let z = p.numbered in let w = q.numbered in
     record { taken = omega (arith, x, y); numbered = omega (arith, z, w) }
 
-pub loop : {b : tree.Block} → Taken b → Held (tree.Loop b)
+pub loop : {inside : ℕ → Bool} {b : tree.Block} → Taken inside b → Held inside (tree.Loop b)
 loop p = let x = p.taken in let z = p.numbered in record { taken = omega (arith, x); numbered = omega (arith, z) }
 
-pub catch : {to : ℕ} {b c : tree.Block} → Taken b → Taken c → Held (tree.Catch to b c)
+pub catch : {inside : ℕ → Bool} {to : ℕ} {b c : tree.Block} → Taken inside b → Taken inside c → Held inside (tree.Catch to b c)
 catch p q =
     let x = p.taken in let y = q.taken in let z = p.numbered in let w = q.numbered in
     record { taken = omega (arith, x, y); numbered = omega (arith, z, w) }
 
-pub stored : (to : ℕ) (a : Operand) → Held (puts to a)
+pub stored : {inside : ℕ → Bool} (to : ℕ) (a : Operand) → Held inside (puts to a)
 stored to (operand.Temp t) = record { taken = refl; numbered = refl }
 stored to (operand.Const c) = record { taken = refl; numbered = refl }
 
 -- parts one after another, and a last block
-pub all_joined : (ps : List Carrier) (b : tree.Block) → AllTaken ps → Taken b → Taken (joined ps b)
+pub all_joined : {inside : ℕ → Bool} (ps : List Carrier) (b : tree.Block) → AllTaken inside ps → Taken inside b → Taken inside (joined ps b)
 all_joined [] b c d = d
 all_joined (p ∷ ps) b c d = both c.0 (all_joined ps b c.1 d)
 
 -- Rewritten blocks
 
-left_by : (t d j : ℕ) (k : Option ℕ) → Held (leaves_by t d j k)
+left_by : {inside : ℕ → Bool} (t d j : ℕ) (k : Option ℕ) → Held inside (leaves_by t d j k)
 left_by t d j None = record { taken = refl; numbered = refl }
 left_by t d j (Some k) = record { taken = refl; numbered = refl }
 
-left : (t d n : ℕ) → Held (leaves t d n)
+left : {inside : ℕ → Bool} (t d n : ℕ) → Held inside (leaves t d n)
 left t d zero = record { taken = refl; numbered = refl }
 left t d (suc j) = left_by t d j (outward d j)
 
-returned : (t : ℕ) (a : Operand) (d : ℕ) → Held (redirect_form t (tree.Return a) d)
+returned : {inside : ℕ → Bool} (t : ℕ) (a : Operand) (d : ℕ) → Held inside (redirect_form t (tree.Return a) d)
 returned t (operand.Temp s) d = record { taken = refl; numbered = refl }
 returned t (operand.Const c) d = record { taken = refl; numbered = refl }
 
-first : {x : tree.Form} {r : tree.Block} → Taken (tree.Follow x r) → Held x
+first : {inside : ℕ → Bool} {x : tree.Form} {r : tree.Block} → Taken inside (tree.Follow x r) → Held inside x
 first p = let x = p.taken in let z = p.numbered in record { taken = omega (arith, x); numbered = omega (arith, z) }
 
-rest : {x : tree.Form} {r : tree.Block} → Taken (tree.Follow x r) → Taken r
+rest : {inside : ℕ → Bool} {x : tree.Form} {r : tree.Block} → Taken inside (tree.Follow x r) → Taken inside r
 rest p = let x = p.taken in let z = p.numbered in record { taken = omega (arith, x); numbered = omega (arith, z) }
 
-on_true : {a : Operand} {y n : tree.Block} → Held (tree.If a y n) → Taken y
+on_true : {inside : ℕ → Bool} {a : Operand} {y n : tree.Block} → Held inside (tree.If a y n) → Taken inside y
 on_true p = let x = p.taken in let z = p.numbered in record { taken = omega (arith, x); numbered = omega (arith, z) }
 
-on_false : {a : Operand} {y n : tree.Block} → Held (tree.If a y n) → Taken n
+on_false : {inside : ℕ → Bool} {a : Operand} {y n : tree.Block} → Held inside (tree.If a y n) → Taken inside n
 on_false p = let x = p.taken in let z = p.numbered in record { taken = omega (arith, x); numbered = omega (arith, z) }
 
-looped : {b : tree.Block} → Held (tree.Loop b) → Taken b
+looped : {inside : ℕ → Bool} {b : tree.Block} → Held inside (tree.Loop b) → Taken inside b
 looped p = let x = p.taken in let z = p.numbered in record { taken = omega (arith, x); numbered = omega (arith, z) }
 
-tried : {to : ℕ} {b c : tree.Block} → Held (tree.Catch to b c) → Taken b
+tried : {inside : ℕ → Bool} {to : ℕ} {b c : tree.Block} → Held inside (tree.Catch to b c) → Taken inside b
 tried p = let x = p.taken in let z = p.numbered in record { taken = omega (arith, x); numbered = omega (arith, z) }
 
-handled : {to : ℕ} {b c : tree.Block} → Held (tree.Catch to b c) → Taken c
+handled : {inside : ℕ → Bool} {to : ℕ} {b c : tree.Block} → Held inside (tree.Catch to b c) → Taken inside c
 handled p = let x = p.taken in let z = p.numbered in record { taken = omega (arith, x); numbered = omega (arith, z) }
 
 mutual
-  form_redirected : (t : ℕ) (x : tree.Form) (d : ℕ) → Held x → Held (redirect_form t x d)
+  form_redirected : {inside : ℕ → Bool} (t : ℕ) (x : tree.Form) (d : ℕ) → Held inside x → Held inside (redirect_form t x d)
   form_redirected t (tree.Constant to c) d h = h
   form_redirected t (tree.Copy to from) d h = h
   form_redirected t (tree.Do to line o args) d h = h
@@ -122,13 +122,13 @@ mutual
   form_redirected t (tree.Raise a) d h = h
   form_redirected t (tree.Unset to) d h = h
 
-  pub redirected : (t : ℕ) (b : tree.Block) (d : ℕ) → Taken b → Taken (redirect t b d)
+  pub redirected : {inside : ℕ → Bool} (t : ℕ) (b : tree.Block) (d : ℕ) → Taken inside b → Taken inside (redirect t b d)
   redirected t tree.Stop d p = stop
   redirected t (tree.Follow x r) d p = follow (form_redirected t x d (first p)) (redirected t r d (rest p))
 
 -- where it is plain to see
-pub done : {x : tree.Form} → form_total (form_operations refuses) x ≡ 0 → form_total (form_operations unnumbers) x ≡ 0 → Held x
+pub done : {inside : ℕ → Bool} {x : tree.Form} → form_total (form_operations refuses) x ≡ 0 → form_total (form_operations (unnumbers inside)) x ≡ 0 → Held inside x
 done t n = record { taken = t; numbered = n }
 
-pub clear : {b : tree.Block} → refused b ≡ 0 → unnumbered b ≡ 0 → Taken b
+pub clear : {inside : ℕ → Bool} {b : tree.Block} → refused b ≡ 0 → unnumbered inside b ≡ 0 → Taken inside b
 clear t n = record { taken = t; numbered = n }

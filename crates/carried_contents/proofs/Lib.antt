@@ -4,7 +4,7 @@ pub mod Expressions
 pub mod Places
 pub mod Statements
 pub mod Constructs
+pub mod Codes
 pub mod Counted
 pub mod Named
-pub mod Codes
 pub mod Scripts

@@ -79,21 +79,21 @@ is_op_call op.Call e = refl
 is_op_call other e = cc
 
 -- a statement of an operation, where it takes what it is given and is no function
-pub given_held : (t line : ℕ) (o : Op) (args : List Argument) → is_taken o args ≡ true → is_function o ≡ false → Held (tree.Do t line o args)
-given_held t line o args e f =
-    done (ap (λ b. if not b then 1 else 0) e) (ap (λ b. if not (if b then has_number args else true) then 1 else 0) f)
+pub given_held : {inside : ℕ → Bool} (t line : ℕ) (o : Op) (args : List Argument) → is_taken o args ≡ true → is_function o ≡ false → Held inside (tree.Do t line o args)
+given_held {inside} t line o args e f =
+    done (ap (λ b. if not b then 1 else 0) e) (ap (λ b. if not (if b then has_number inside args else true) then 1 else 0) f)
 
-called_held : (t line : ℕ) (os : List Operand) → is_taken op.Call (given (arguments op.Call) os) ≡ true → Held (called t line os)
+called_held : {inside : ℕ → Bool} (t line : ℕ) (os : List Operand) → is_taken op.Call (given (arguments op.Call) os) ≡ true → Held inside (called t line os)
 called_held t line [] e = cc
 called_held t line (f ∷ os) e = done (ap (λ b. if not b then 1 else 0) (values_taken os)) refl
 
-does_by : (t line : ℕ) (o : Op) (os : List Operand) (b : Bool) → is_call o ≡ b → is_taken o (given (arguments o) os) ≡ true → is_function o ≡ false → Held (does t line o os)
-does_by t line o os true e taken f =
-    subst (λ o. Held (does t line o os)) (sym (is_op_call o e)) (called_held t line os (subst (λ o. is_taken o (given (arguments o) os) ≡ true) (is_op_call o e) taken))
-does_by t line o os false e taken f =
-    subst (λ b. Held (if b then called t line os else tree.Do t line o (given (arguments o) os))) (sym e) (given_held t line o (given (arguments o) os) taken f)
+does_by : {inside : ℕ → Bool} (t line : ℕ) (o : Op) (os : List Operand) (b : Bool) → is_call o ≡ b → is_taken o (given (arguments o) os) ≡ true → is_function o ≡ false → Held inside (does t line o os)
+does_by {inside} t line o os true e taken f =
+    subst (λ o. Held inside (does t line o os)) (sym (is_op_call o e)) (called_held t line os (subst (λ o. is_taken o (given (arguments o) os) ≡ true) (is_op_call o e) taken))
+does_by {inside} t line o os false e taken f =
+    subst (λ b. Held inside (if b then called t line os else tree.Do t line o (given (arguments o) os))) (sym e) (given_held t line o (given (arguments o) os) taken f)
 
-pub does_held : (c : Roster) (r : Room) (h : Homes) (t to line : ℕ) (o : Op) (xs : syntax.Expressions) → LawfulOperands c r (arguments o) (further o) xs → Held (does to line o (operands (values h t xs).parts))
+pub does_held : {inside : ℕ → Bool} (c : Roster) (r : Room) (h : Homes) (t to line : ℕ) (o : Op) (xs : syntax.Expressions) → LawfulOperands c r (arguments o) (further o) xs → Held inside (does to line o (operands (values h t xs).parts))
 does_held c r h t to line o xs l =
     does_by to line o (operands (values h t xs).parts) (is_call o) refl (all_given c r h t (arguments o) (further o) xs (further_plain o) l) (no_function c r h o xs l)
 
@@ -102,7 +102,7 @@ function_no_two : (o : Op) → arguments o ≡ kind.Value ∷ kind.Value ∷ [] 
 function_no_two op.Func e = cc
 function_no_two other e = refl
 
-pub two_held : (t line : ℕ) (o : Op) (a b : Operand) → TakesTwo o → Held (tree.Do t line o (argument.Value a ∷ argument.Value b ∷ []))
+pub two_held : {inside : ℕ → Bool} (t line : ℕ) (o : Op) (a b : Operand) → TakesTwo o → Held inside (tree.Do t line o (argument.Value a ∷ argument.Value b ∷ []))
 two_held t line o a b w =
     let args : List Argument = argument.Value a ∷ argument.Value b ∷ [] in
     let e : is_taken o args ≡ true =

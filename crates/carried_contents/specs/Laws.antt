@@ -1,5 +1,5 @@
 -- What stands in the primitive statements of lawful codes.
-use Rattle.std.specs.Prelude.{◌≡◌, ℕ, ◌*◌, ◌≤◌, Bool, true, Option, List, Some, None, Ok}
+use Rattle.std.specs.Prelude.{nat_lt, length, ◌≡◌, ℕ, ◌*◌, ◌≤◌, Bool, true, Option, List, Some, None, Ok}
 use Rattle.std.specs.List.{AllByRecursion}
 use Rattle.node_tree.specs.Tree as tree
 use Rattle.node_tree.specs.declared.script.NodeCode.{NodeCode}
@@ -11,7 +11,7 @@ use Rattle.py_ast.specs.declared.scoped.NameHome.{NameHome}
 use Rattle.py_meaning.specs.Own.{own}
 use Rattle.py_meaning.specs.Texts.{texts}
 use Rattle.py_meaning.specs.Script.{all_codes}
-use Rattle.py_safe.specs.Rosters.{Role, Roster}
+use Rattle.py_safe.specs.Rosters.{Role, Roster, IsCode}
 use Rattle.py_safe.specs.Constructs.{LawfulCode}
 use Rattle.py_scopes.specs.Resolve.{Answers, AnswersBuiltIn}
 use Rattle.carried_codes.specs.Nodes.{code_nodes}
@@ -20,19 +20,20 @@ use Rattle.carried_contents.specs.Counts.{stand, asked}
 use Rattle.carried_contents.specs.Naming.{other_names, other_texts}
 use Rattle.carried_contents.specs.Taking.{refused, unnumbered}
 
--- each operation takes what it is given, and each function has the number of its code
+-- each operation takes what it is given, and each function has the number of a code that is there
 pub record CodesAreTaken : Type 0 where
   pub taken : (r : Roster) (role : Role) (c : syntax.Code) → LawfulCode r role c → refused (code_nodes c) ≡ 0
-  pub numbered : (r : Roster) (role : Role) (c : syntax.Code) → LawfulCode r role c → unnumbered (code_nodes c) ≡ 0
+  pub numbered : (r : Roster) (role : Role) (c : syntax.Code) → LawfulCode r role c → (inside : ℕ → Bool) → ((n : ℕ) (role : Role) → IsCode r n role → inside n ≡ true) → unnumbered inside (code_nodes c) ≡ 0
 
-abbrev pub IsTaken : NodeCode → Type 0
-IsTaken k = (refused (tree.block k.body) ≡ 0) × (unnumbered (tree.block k.body) ≡ 0)
+-- among so many codes
+abbrev pub IsTaken : ℕ → NodeCode → Type 0
+IsTaken count k = (refused (tree.block k.body) ≡ 0) × (unnumbered (λ code. nat_lt code count) (tree.block k.body) ≡ 0)
 
 -- so it is in the nodes of a script that keeps the static rules, alone or with a built-in text behind it
 pub record AcceptedScriptsAreTaken : Type 0 where
-  pub alone : (script : Script) (scoped : Scoped) (nodes : List NodeCode) → Answers script (Ok scoped) → AreMadeOf (all_codes scoped None) nodes → AllByRecursion IsTaken nodes
+  pub alone : (script : Script) (scoped : Scoped) (nodes : List NodeCode) → Answers script (Ok scoped) → AreMadeOf (all_codes scoped None) nodes → AllByRecursion (IsTaken (length nodes)) nodes
   pub with_text : (script : Script) (scoped : Scoped) (text : Script) (behind : Scoped) (nodes : List NodeCode) → Answers script (Ok scoped) → AnswersBuiltIn text (Ok behind) → AreMadeOf (all_codes scoped (Some behind)) nodes
-      → AllByRecursion IsTaken nodes
+      → AllByRecursion (IsTaken (length nodes)) nodes
 
 -- operations that aren't free stand at most four times as often as the scope's own list asks for them, by every test of operations and
 -- their bare names

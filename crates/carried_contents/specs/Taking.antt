@@ -1,4 +1,4 @@
--- How many operations don't take what they are given, and how many functions have a code that is no number.
+-- How many operations don't take what they are given, and how many functions have a code that is no number, or another one.
 use Rattle.std.specs.Prelude.{ℕ, pos, List, ◌∷◌, Bool, true, false, not, if◌then◌else◌}
 use Rattle.op_forms.specs.declared.constant.Const.TheVariants as const
 use Rattle.op_forms.specs.declared.op.Op.{Op}
@@ -18,14 +18,15 @@ abbrev pub is_function : Op → Bool
 is_function op.Func = true
 is_function other = false
 
-abbrev pub has_number : List Argument → Bool
-has_number (argument.Value (operand.Const (const.Int (pos code))) ∷ args) = true
-has_number other = false
+-- a function's code is a number that stands there and passes the test
+module _ (inside : ℕ → Bool) where
+  abbrev pub has_number : List Argument → Bool
+  has_number (argument.Value (operand.Const (const.Int (pos code))) ∷ args) = inside code
+  has_number other = false
 
--- a function's code is a number that stands there
-abbrev pub is_numbered : Op → List Argument → Bool
-is_numbered o args = if is_function o then has_number args else true
+  abbrev pub is_numbered : Op → List Argument → Bool
+  is_numbered o args = if is_function o then has_number args else true
 
--- how many functions have codes that are no numbers
-abbrev pub unnumbered : Block → ℕ
-unnumbered b = operations (λ o args. not (is_numbered o args)) b
+  -- how many functions have other codes
+  abbrev pub unnumbered : Block → ℕ
+  unnumbered b = operations (λ o args. not (is_numbered o args)) b
