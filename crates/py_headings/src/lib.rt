@@ -1,0 +1,2 @@
+//! What stands before the codes of functions.
+#![tactic(auto)]
