@@ -28,5 +28,5 @@ HasName (param.DoubleStar line name) = IsName name
 
 -- parameters in the order of the grammar, with names, make a heading of a scope with a line, in any class
 abbrev pub ParametersMakeHeadings : Type 0
-ParametersMakeHeadings = {A : Type 0} (f : Expr → A) (c : Context) (scope : Scope) (ps : List (Param Expr)) → MayBeName c.class → AllByRecursion HasName ps → params_in_order ps ≡ true → 0 < scope.line
+ParametersMakeHeadings = (A : Type 0) (f : Expr → A) (c : Context) (scope : Scope) (ps : List (Param Expr)) → MayBeName c.class → AllByRecursion HasName ps → params_in_order ps ≡ true → 0 < scope.line
     → IsHeading (header (Some scope) (shape c (map (param_of f) ps)))
