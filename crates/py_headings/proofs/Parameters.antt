@@ -98,7 +98,7 @@ shape_is f c ps =
     ∙ ap (map (renamed c)) (kinds_same f (if list_any is_slash ps then kind.Only else kind.Plain) ps)
 
 pub make_heading : ParametersMakeHeadings
-make_heading A f c scope ps class names order line =
+make_heading f c scope ps class names order line =
     let k = its_kinds ps in
     subst (λ params. IsHeading (header (Some scope) params)) (sym (shape_is f c ps))
     (record { params = all_renamed c k class (kinds_named _ ps names); order = order_same c 0 k ∙ ordered ps order; from_one = line })

@@ -7,7 +7,7 @@ use Rattle.py_ast.specs.declared.expr.Param.TheVariants as param
 use Rattle.py_ast.specs.declared.scoped.Scope.{Scope}
 use Rattle.py_grammar.specs.Lists.{params_in_order}
 use Rattle.py_scopes.specs.Parts.{param_of}
-use Rattle.py_meaning.specs.Resolved.{Context, header, shape}
+use Rattle.py_meaning.specs.Resolved.{Context, Part, header, shape}
 use Rattle.c_meaning.specs.Written.{has}
 use Rattle.generator_cut.specs.Writable.{IsHeading}
 
@@ -28,5 +28,5 @@ HasName (param.DoubleStar line name) = IsName name
 
 -- parameters in the order of the grammar, with names, make a heading of a scope with a line, in any class
 abbrev pub ParametersMakeHeadings : Type 0
-ParametersMakeHeadings = (A : Type 0) (f : Expr → A) (c : Context) (scope : Scope) (ps : List (Param Expr)) → MayBeName c.class → AllByRecursion HasName ps → params_in_order ps ≡ true → 0 < scope.line
+ParametersMakeHeadings = (f : Expr → Part) (c : Context) (scope : Scope) (ps : List (Param Expr)) → MayBeName c.class → AllByRecursion HasName ps → params_in_order ps ≡ true → 0 < scope.line
     → IsHeading (header (Some scope) (shape c (map (param_of f) ps)))
