@@ -1,5 +1,5 @@
 -- Parameters in the order of the grammar have their kinds in order.
-use Rattle.std.proofs.Common.{◌≡◌, ℕ, Bool, true, false, ◌&&◌, nat_le, List, [], ◌∷◌, Option, Some, None, refl, cond, fold}
+use Rattle.std.proofs.Common.{◌≡◌, ℕ, Bool, true, false, ◌&&◌, nat_le, List, [], ◌∷◌, Some, None, refl, cond, fold}
 use Rattle.std.specs.List.{list_any}
 use Rattle.nu_value.specs.declared.header.ParamKind.{ParamKind}
 use Rattle.nu_value.specs.declared.header.ParamKind.TheVariants as kind
@@ -80,14 +80,14 @@ mutual
 
 -- in front of a star, where no slash follows
 
-abbrev None' : Params → Type 0
-None' ps = list_any is_slash ps ≡ false
+abbrev NoSlash : Params → Type 0
+NoSlash ps = list_any is_slash ps ≡ false
 
 one : Low 1
 one = record { plain = refl; star = refl; key = refl; double = refl }
 
-zero' : Low 0
-zero' = record { plain = refl; star = refl; key = refl; double = refl }
+none_yet : Low 0
+none_yet = record { plain = refl; star = refl; key = refl; double = refl }
 
 starts : Behind 3
 starts = record { key = refl; double = refl }
@@ -96,7 +96,7 @@ yes : true ≡ false → ⊥
 yes e = cc
 
 mutual
-  start : (least : ℕ) (ps : Params) → Low least → None' ps → Completes s.Start ps → in_order least (kinds kind.Plain ps) ≡ true
+  start : (least : ℕ) (ps : Params) → Low least → NoSlash ps → Completes s.Start ps → in_order least (kinds kind.Plain ps) ≡ true
   start least [] l n c = refl
   start least (param.Named line name None ∷ ps) l n c = both _ _ l.plain (plain 1 ps one n c)
   start least (param.Named line name (Some x) ∷ ps) l n c = both _ _ l.plain (optional 1 ps one n c)
@@ -105,7 +105,7 @@ mutual
   start least (param.Star line (Some name) ∷ ps) l n c = both _ _ l.star (starred 3 ps starts c)
   start least (param.DoubleStar line name ∷ ps) l n c = both _ _ l.double (last 5 kind.Plain ps c)
 
-  plain : (least : ℕ) (ps : Params) → Low least → None' ps → Completes s.Plain ps → in_order least (kinds kind.Plain ps) ≡ true
+  plain : (least : ℕ) (ps : Params) → Low least → NoSlash ps → Completes s.Plain ps → in_order least (kinds kind.Plain ps) ≡ true
   plain least [] l n c = refl
   plain least (param.Named line name None ∷ ps) l n c = both _ _ l.plain (plain 1 ps one n c)
   plain least (param.Named line name (Some x) ∷ ps) l n c = both _ _ l.plain (optional 1 ps one n c)
@@ -114,7 +114,7 @@ mutual
   plain least (param.Star line (Some name) ∷ ps) l n c = both _ _ l.star (starred 3 ps starts c)
   plain least (param.DoubleStar line name ∷ ps) l n c = both _ _ l.double (last 5 kind.Plain ps c)
 
-  optional : (least : ℕ) (ps : Params) → Low least → None' ps → Completes s.Optional ps → in_order least (kinds kind.Plain ps) ≡ true
+  optional : (least : ℕ) (ps : Params) → Low least → NoSlash ps → Completes s.Optional ps → in_order least (kinds kind.Plain ps) ≡ true
   optional least [] l n c = refl
   optional least (param.Named line name None ∷ ps) l n c = absurd (wrong ps c)
   optional least (param.Named line name (Some x) ∷ ps) l n c = both _ _ l.plain (optional 1 ps one n c)
@@ -145,11 +145,11 @@ mutual
 
 -- in front of a slash: behind a star there is none
 
-abbrev Some' : Params → Type 0
-Some' ps = list_any is_slash ps ≡ true
+abbrev ASlash : Params → Type 0
+ASlash ps = list_any is_slash ps ≡ true
 
 mutual
-  none_bare : (ps : Params) → Some' ps → Completes s.Bare ps → ⊥
+  none_bare : (ps : Params) → ASlash ps → Completes s.Bare ps → ⊥
   none_bare [] n c = no n
   none_bare (param.Named line name None ∷ ps) n c = none_starred ps n c
   none_bare (param.Named line name (Some x) ∷ ps) n c = none_starred ps n c
@@ -158,7 +158,7 @@ mutual
   none_bare (param.Star line (Some name) ∷ ps) n c = wrong ps c
   none_bare (param.DoubleStar line name ∷ ps) n c = wrong ps c
 
-  none_starred : (ps : Params) → Some' ps → Completes s.Starred ps → ⊥
+  none_starred : (ps : Params) → ASlash ps → Completes s.Starred ps → ⊥
   none_starred [] n c = no n
   none_starred (param.Named line name None ∷ ps) n c = none_starred ps n c
   none_starred (param.Named line name (Some x) ∷ ps) n c = none_starred ps n c
@@ -167,7 +167,7 @@ mutual
   none_starred (param.Star line (Some name) ∷ ps) n c = wrong ps c
   none_starred (param.DoubleStar line name ∷ ps) n c = none_double ps n c
 
-  none_double : (ps : Params) → Some' ps → Completes s.Double ps → ⊥
+  none_double : (ps : Params) → ASlash ps → Completes s.Double ps → ⊥
   none_double [] n c = no n
   none_double (param.Named line name None ∷ ps) n c = wrong ps c
   none_double (param.Named line name (Some x) ∷ ps) n c = wrong ps c
@@ -177,7 +177,7 @@ mutual
   none_double (param.DoubleStar line name ∷ ps) n c = wrong ps c
 
 mutual
-  only_start : (ps : Params) → Some' ps → Completes s.Start ps → in_order 0 (kinds kind.Only ps) ≡ true
+  only_start : (ps : Params) → ASlash ps → Completes s.Start ps → in_order 0 (kinds kind.Only ps) ≡ true
   only_start [] n c = refl
   only_start (param.Named line name None ∷ ps) n c = only_plain ps n c
   only_start (param.Named line name (Some x) ∷ ps) n c = only_optional ps n c
@@ -186,27 +186,27 @@ mutual
   only_start (param.Star line (Some name) ∷ ps) n c = absurd (none_starred ps n c)
   only_start (param.DoubleStar line name ∷ ps) n c = absurd (none_double ps n c)
 
-  only_plain : (ps : Params) → Some' ps → Completes s.Plain ps → in_order 0 (kinds kind.Only ps) ≡ true
+  only_plain : (ps : Params) → ASlash ps → Completes s.Plain ps → in_order 0 (kinds kind.Only ps) ≡ true
   only_plain [] n c = refl
   only_plain (param.Named line name None ∷ ps) n c = only_plain ps n c
   only_plain (param.Named line name (Some x) ∷ ps) n c = only_optional ps n c
-  only_plain (param.Slash line ∷ ps) n c = slash_plain 0 ps zero' c
+  only_plain (param.Slash line ∷ ps) n c = slash_plain 0 ps none_yet c
   only_plain (param.Star line None ∷ ps) n c = absurd (none_bare ps n c)
   only_plain (param.Star line (Some name) ∷ ps) n c = absurd (none_starred ps n c)
   only_plain (param.DoubleStar line name ∷ ps) n c = absurd (none_double ps n c)
 
-  only_optional : (ps : Params) → Some' ps → Completes s.Optional ps → in_order 0 (kinds kind.Only ps) ≡ true
+  only_optional : (ps : Params) → ASlash ps → Completes s.Optional ps → in_order 0 (kinds kind.Only ps) ≡ true
   only_optional [] n c = refl
   only_optional (param.Named line name None ∷ ps) n c = absurd (wrong ps c)
   only_optional (param.Named line name (Some x) ∷ ps) n c = only_optional ps n c
-  only_optional (param.Slash line ∷ ps) n c = slash_optional 0 ps zero' c
+  only_optional (param.Slash line ∷ ps) n c = slash_optional 0 ps none_yet c
   only_optional (param.Star line None ∷ ps) n c = absurd (none_bare ps n c)
   only_optional (param.Star line (Some name) ∷ ps) n c = absurd (none_starred ps n c)
   only_optional (param.DoubleStar line name ∷ ps) n c = absurd (none_double ps n c)
 
 by : (b : Bool) (ps : Params) → list_any is_slash ps ≡ b → params_in_order ps ≡ true → in_order 0 (kinds (cond b kind.Only kind.Plain) ps) ≡ true
 by true ps e c = only_start ps e c
-by false ps e c = start 0 ps zero' e c
+by false ps e c = start 0 ps none_yet e c
 
 pub ordered : (ps : Params) → params_in_order ps ≡ true → in_order 0 (kinds (cond (list_any is_slash ps) kind.Only kind.Plain) ps) ≡ true
 ordered ps c = by (list_any is_slash ps) ps refl c

@@ -1,13 +1,11 @@
 -- Parameters with names, in order, make a heading.
-use Rattle.std.proofs.Common.{◌≡◌, ◌≢◌, ℕ, ◌<◌, Bool, true, false, ◌&&◌, ◌||◌, ◌==◌, nat_le, nat_eq, if◌then◌else◌, cond, List, [], ◌∷◌, ◌++◌, map, codes, Option, Some, None, refl, sym, ap, ◌∙◌, subst}
+use Rattle.std.proofs.Common.{◌≡◌, ℕ, Bool, true, false, ◌&&◌, ◌||◌, ◌==◌, nat_le, if◌then◌else◌, List, [], ◌∷◌, ◌++◌, map, codes, Option, Some, None, refl, sym, ap, ◌∙◌, subst}
 use Rattle.std.specs.List.{AllByRecursion, list_any}
 use Rattle.nu_value.specs.declared.header.ParamKind.{ParamKind}
 use Rattle.nu_value.specs.declared.header.ParamKind.TheVariants as kind
 use Rattle.py_ast.specs.declared.expr.Expr.{Expr}
 use Rattle.py_ast.specs.declared.expr.Param.{Param}
 use Rattle.py_ast.specs.declared.expr.Param.TheVariants as param
-use Rattle.py_ast.specs.declared.scoped.Scope.{Scope}
-use Rattle.py_grammar.specs.Lists.{params_in_order}
 use Rattle.py_scopes.specs.Names.{stem, is_private, mangled}
 use Rattle.py_scopes.specs.Parts.{param_of}
 use Rattle.py_meaning.specs.Resolved.{Context, header, shape, kinds, is_slash, name_in}
