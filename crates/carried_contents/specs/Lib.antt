@@ -1,0 +1,4 @@
+pub mod Taking
+pub mod Counts
+pub mod Naming
+pub mod Laws
