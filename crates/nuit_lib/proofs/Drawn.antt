@@ -78,9 +78,9 @@ module _ {A : Type 0} (n : ℕ) (i j : A) (before after held held' : Option (Lis
       let there = state_of ask.asking (over ask.printed (ask.front ++ (ask.chunk ++ input_of.rest))) in
       let begin = ap (λ l. stands old.standing (over [] l)) whole ∙ fresh.first input_of.left in
       let leads : gone (step table_rules old.code) ask.before (start table_rules p input_of.left) ≡ More there =
-          subst (λ x. gone (step table_rules old.code) ask.before x ≡ More there) begin (ask.leads input_of.rest input_of.follows) in
+      subst (λ x. gone (step table_rules old.code) ask.before x ≡ More there) begin (ask.leads input_of.rest input_of.follows) in
       let stands : gone (step table_rules (code_of p)) ask.before (start table_rules p input_of.left) ≡ More there =
-          subst (λ c. gone (step table_rules c) ask.before (start table_rules p input_of.left) ≡ More there) fresh.holds leads in
+      subst (λ c. gone (step table_rules c) ask.before (start table_rules p input_of.left) ≡ More there) fresh.holds leads in
       record {
         behind = ask.before;
         fewer = ask.within;
