@@ -1,12 +1,15 @@
 //! `run FILE` and `run FILE STEPS`: from the bytes of a C text to its run.
 
-ghost use Rattle.std.specs.Prelude.{◌≡◌, ◌≤◌, length, true};
+ghost use Rattle.std.specs.Prelude.{◌≡◌, ◌≤◌, List, ℕ, false, length, true};
+ghost use Rattle.c_meaning.specs.declared.program.CProgram.{CProgram};
+ghost use Rattle.c_meaning.specs.Written.{IsText};
+ghost use Rattle.c_machine.specs.Machines.{IsFresh};
 ghost use Rattle.nuit_lib.specs.Replies.{message_at, not_c_text, status_at, stop_name, stop_text, undefined_text};
 ghost use Rattle.nuit_lib.specs.Ends.{RunEnds, RunTakes, Said, TakesFront, is_before_run, stream};
 
 use crate::saying::{READ_FAULT, put, say};
 use crate::status::Status;
-use c_machine::{Stepped, Trouble, start};
+use c_machine::{Machine, Stepped, Trouble, start};
 use c_meaning::CEnd;
 use c_reader::{ReadEnd, read};
 use nu_base::{Sink, Source};
@@ -42,6 +45,29 @@ pub(crate) fn run<I: Source, O: Sink, E: Sink>(
     let Ok(mut machine) = start(alloc, program) else {
         return Status::Memory;
     };
+    let status = finish(alloc, &mut machine, steps, input, out, err);
+    drop(machine);
+    status
+}
+
+// Runs a machine that has taken no step, and says how its run ends. What the machine holds is dropped by its owner alone.
+fn finish<I: Source, O: Sink, E: Sink>(
+    alloc: Global,
+    machine: &mut Machine,
+    steps: u64,
+    input: &mut I,
+    out: &mut O,
+    err: &mut E,
+) -> Status
+    ensures writes { (bytes : List ℕ) (p : CProgram) → length bytes ≤ 1073741824 → IsText bytes p → IsFresh machine.old p → RunEnds bytes steps
+        (stream (I.left input.old) (I.left input.new) (I.faults input.old) (I.faults input.new))
+        (stream (O.held out.old) (O.held out.new) (O.faults out.old) (O.faults out.new))
+        (stream (E.held err.old) (E.held err.new) (E.faults err.old) (E.faults err.new)) result }
+    ensures input { machine.old.failed ≡ false → TakesFront (I.left input.old) (I.left input.new) }
+    ensures late { is_before_run result ≡ false }
+    ensures few { (bytes : List ℕ) (p : CProgram) → IsText bytes p → IsFresh machine.old p → RunTakes bytes steps input.old input.new (I.left input.old) (I.left input.new) }
+    ensures counts { I.faults input.old ≤ I.faults input.new }
+{
     match machine.run(steps, input, out) {
         Ok(Stepped::More) => say(err, STEPS, Status::Steps),
         Ok(Stepped::Ended) => match machine.end() {
