@@ -21,7 +21,6 @@ use Rattle.reform_all.specs.Scripts.{module_header, IsReformed}
 use Rattle.reform_all.specs.Taken as nodes
 use Rattle.flow_code.specs.declared.function.FlatFunction.{FlatFunction}
 use Rattle.flow_code.specs.declared.function.FlatScript.{FlatScript}
-use Rattle.flow_code.specs.Contents as flat
 use Rattle.flow_code.specs.Run.{header}
 use Rattle.flow_lower.specs.Correct as lowering
 use Rattle.flow_lower.specs.Kept as lowering_kept

@@ -14,7 +14,7 @@ use Rattle.c_meaning.specs.Written.{IsText}
 use Rattle.c_reader.proofs.Programs.{one_program}
 use Rattle.c_stack.specs.Standing.{state_of, stands}
 use Rattle.c_input.specs.declared.input.Buffer.{Buffer}
-use Rattle.c_input.specs.Lines.{Drained, Drains}
+use Rattle.c_input.specs.Lines.{Drained}
 use Rattle.c_machine.specs.declared.ending.Stepped.{Stepped as Answer}
 use Rattle.c_machine.specs.declared.ending.Trouble.{Trouble}
 use Rattle.c_machine.specs.declared.ending.Trouble.TheVariants as trouble
@@ -22,7 +22,7 @@ use Rattle.c_machine.specs.Calls.{Ran, Runs}
 use Rattle.c_machine.specs.Inputs.{Follows, LastAsk, asks, over}
 use Rattle.c_machine.specs.Machines.{IsFresh, Seen, run_from}
 use Rattle.c_machine.specs.Walks.{gone}
-use Rattle.nuit_lib.specs.Asking.{AsksLast, AsksLine, TakesFew, TakesForLine}
+use Rattle.nuit_lib.specs.Asking.{AsksLast, AsksLine, TakesFew}
 use Rattle.nuit_lib.specs.Ends.{RunTakes, TakesFront}
 
 -- the input that is told, or some input: what was taken and what is left

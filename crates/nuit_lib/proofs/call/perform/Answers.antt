@@ -1,4 +1,3 @@
-use Rattle.nuit_lib.proofs.Drawn.{takes_none}
 use Rattle.nuit_lib.proofs.call.perform.Goals as goal
 
 pub returns-in-Run-clause-writes : goal.returns-in-Run-clause-writes
