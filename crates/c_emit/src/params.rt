@@ -49,11 +49,7 @@ fn spelled(alloc: Global, params: &Shape) -> Result<Vec<u8>, AllocError>
 }
 
 /// All parameters between quotation marks.
-pub(crate) fn push_params(
-    alloc: Global,
-    text: &mut String,
-    params: &Shape,
-) -> Result<(), AllocError>
+pub fn push_params(alloc: Global, text: &mut String, params: &Shape) -> Result<(), AllocError>
     ensures { OnOk result (string_bytes text.new ≡ string_bytes text.old ++ string_text (params_text params.now)) }
 {
     let bytes = spelled(alloc, params)?;

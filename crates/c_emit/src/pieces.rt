@@ -6,7 +6,7 @@ ghost use Rattle.nu_text.specs.Strings.{stands_plain, string_byte, string_text};
 use std::alloc::AllocError;
 
 /// A string between quotation marks.
-pub(crate) fn push_string(text: &mut String, bytes: &[u8]) -> Result<(), AllocError>
+pub fn push_string(text: &mut String, bytes: &[u8]) -> Result<(), AllocError>
     ensures { OnOk result (string_bytes text.new ≡ string_bytes text.old ++ string_text bytes.now) }
 {
     text.push_str("\"")?;
@@ -35,7 +35,7 @@ fn is_plain(byte: u8) -> bool
 }
 
 /// A form without parts.
-pub(crate) fn push_form(text: &mut String, form: &str) -> Result<(), AllocError>
+pub fn push_form(text: &mut String, form: &str) -> Result<(), AllocError>
     ensures { OnOk result (string_bytes text.new ≡ string_bytes text.old ++ form.now) }
 {
     text.push_str(form)

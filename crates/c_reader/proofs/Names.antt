@@ -11,11 +11,11 @@ use Rattle.c_reader.specs.Statements.{NameStands}
 use Rattle.c_reader.proofs.Numbers.{same_rest, mapped_none}
 
 -- the operation that has a name
-find : List ℕ → Option Op
+pub find : List ℕ → Option Op
 find name = op_among ops name
 
 -- each operation is found by its name
-known : (o : Op) → find (op_name o) ≡ Some o
+pub known : (o : Op) → find (op_name o) ≡ Some o
 unfolding find
 known o = found_by (op_name o) o refl
 
@@ -30,7 +30,7 @@ among [] name o P e all = absurd (none_some e)
     none_some e = grind (arith, e)
 among (p ∷ table) name o P e all = picked (bytes_eq (op_name p) name) p o (op_among table name) P e all.0 (λ rest. among table name o P rest all.1)
 
-all_found : (P : Op → Type 0) → AllByRecursion P ops → (name : List ℕ) (o : Op) → find name ≡ Some o → P o
+pub all_found : (P : Op → Type 0) → AllByRecursion P ops → (name : List ℕ) (o : Op) → find name ≡ Some o → P o
 unfolding find
 all_found P all name o e = among ops name o P e all
 

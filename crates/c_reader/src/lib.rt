@@ -1,4 +1,5 @@
-//! Reads the C text: the program that stands for given bytes, or that none does.
+//! Reads the C text: the program that stands for given bytes, or that none does. The node text has the reading of its strings,
+//! numbers and parameters from here.
 #![tactic(auto)]
 
 mod argument;
@@ -7,12 +8,12 @@ mod end;
 mod function;
 mod labels;
 mod laws;
-mod number;
+pub mod number;
 mod operand;
 mod operation;
-mod params;
+pub mod params;
 mod reader;
-mod spelling;
+pub mod spelling;
 mod statement;
 mod stored;
 

@@ -8,13 +8,13 @@ ghost use Rattle.c_reader.specs.Pieces.{BareStands, NumberStands, FieldStands, I
 use nu_text::leading_decimal;
 
 /// How many lines there are, and how many functions a number could name.
-pub(crate) const LINES: u128 = 1 << 32;
+pub const LINES: u128 = 1 << 32;
 
 /// How many labels, slots, parameters and cells there are.
-pub(crate) const NUMBERS: u128 = 1 << 64;
+pub const NUMBERS: u128 = 1 << 64;
 
 /// What follows the literal, where the text begins with it.
-pub(crate) fn after<'a>(text: &'a [u8], literal: &[u8]) -> Option<&'a [u8]>
+pub fn after<'a>(text: &'a [u8], literal: &[u8]) -> Option<&'a [u8]>
     ensures some { IfSome result (λ rest. text.now ≡ literal.now ++ rest.now) }
     ensures none { IfNone result ((rest : List ℕ) → text.now ≡ literal.now ++ rest → ⊥) }
 {
@@ -22,7 +22,7 @@ pub(crate) fn after<'a>(text: &'a [u8], literal: &[u8]) -> Option<&'a [u8]>
 }
 
 /// Whether a digit follows.
-pub(crate) fn begins_with_digit(text: &[u8]) -> bool
+pub fn begins_with_digit(text: &[u8]) -> bool
     ensures { result ≡ starts_digit text.now }
 {
     match text {
@@ -32,7 +32,7 @@ pub(crate) fn begins_with_digit(text: &[u8]) -> bool
 }
 
 /// The number below the limit of which the decimal begins the text; and what follows, which begins with no digit.
-pub(crate) fn bare_number(text: &[u8], limit: u128) -> Option<(u64, &[u8])>
+pub fn bare_number(text: &[u8], limit: u128) -> Option<(u64, &[u8])>
     requires { limit ≤ 2 ^ 64 }
     ensures some { IfSome result (λ found. BareStands limit text.now found.0 found.1.now) }
     ensures none { IfNone result ((n : ℕ) (rest : List ℕ) → BareStands limit text.now n rest → ⊥) }
@@ -46,7 +46,7 @@ pub(crate) fn bare_number(text: &[u8], limit: u128) -> Option<(u64, &[u8])>
 }
 
 /// The number below the limit of which the decimal begins the text, where this closing follows it; and what follows.
-pub(crate) fn number<'a>(text: &'a [u8], limit: u128, closing: &[u8]) -> Option<(u64, &'a [u8])>
+pub fn number<'a>(text: &'a [u8], limit: u128, closing: &[u8]) -> Option<(u64, &'a [u8])>
     requires limit { limit ≤ 2 ^ 64 }
     requires closing { ends_decimal closing.now ≡ true }
     ensures some { IfSome result
@@ -60,7 +60,7 @@ pub(crate) fn number<'a>(text: &'a [u8], limit: u128, closing: &[u8]) -> Option<
 }
 
 /// The number below the limit that stands between two pieces at the front of the text; and what follows.
-pub(crate) fn field<'a>(
+pub fn field<'a>(
     text: &'a [u8],
     opening: &[u8],
     limit: u128,
@@ -78,7 +78,7 @@ pub(crate) fn field<'a>(
 }
 
 /// What follows the decimal of this number and this closing, where the text begins with them.
-pub(crate) fn after_number<'a>(text: &'a [u8], value: u64, closing: &[u8]) -> Option<&'a [u8]>
+pub fn after_number<'a>(text: &'a [u8], value: u64, closing: &[u8]) -> Option<&'a [u8]>
     requires { ends_decimal closing.now ≡ true }
     ensures some { IfSome result
         (λ rest. text.now ≡ before (decimal value ∷ closing.now ∷ []) rest.now) }

@@ -124,7 +124,7 @@ fn in_order(shape: &Shape) -> bool
 }
 
 /// The parameters of which a string stands at the front, and what follows.
-pub(crate) fn params(alloc: Global, text: &[u8]) -> Result<Option<(Shape, &[u8])>, AllocError>
+pub fn params(alloc: Global, text: &[u8]) -> Result<Option<(Shape, &[u8])>, AllocError>
     ensures some { IfOk result
         (λ read. IfSome read (λ found. ParamsStand text.now found.0 found.1.now)) }
     ensures none { IfOk result (λ read. IfNone read

@@ -63,7 +63,7 @@ pub(crate) fn quoted(alloc: Global, text: &[u8]) -> Result<Option<(Vec<u8>, &[u8
 }
 
 /// The text of which a string stands at the front, and what follows.
-pub(crate) fn string(alloc: Global, text: &[u8]) -> Result<Option<(RcStr, &[u8])>, AllocError>
+pub fn string(alloc: Global, text: &[u8]) -> Result<Option<(RcStr, &[u8])>, AllocError>
     ensures some { IfOk result
         (λ read. IfSome read (λ found. StringStands text.now found.0 found.1.now)) }
     ensures none { IfOk result

@@ -1,0 +1,10 @@
+pub mod Codes
+pub mod Heads
+pub mod Lengths
+pub mod Lists
+pub mod Names
+pub mod Nodes
+pub mod Operands
+pub mod Passed
+pub mod Scripts
+pub mod Trees

@@ -1,0 +1,5 @@
+pub mod Answers
+pub mod Codes
+pub mod Lines
+pub mod Nodes
+pub mod Laws

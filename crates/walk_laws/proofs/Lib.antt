@@ -1,0 +1,9 @@
+pub mod Threads
+pub mod Lists
+pub mod Targets
+pub mod Functions
+pub mod Comprehensions
+pub mod Expressions
+pub mod Simple
+pub mod Compound
+pub mod Statements
