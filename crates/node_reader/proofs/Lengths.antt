@@ -16,25 +16,30 @@ before_long (piece ∷ pieces) rest =
     let sum = length-append piece (before pieces rest) in
     omega (arith, more, sum)
 
-first_long : (piece : List ℕ) (pieces : List (List ℕ)) (rest : List ℕ) → 0 < length piece → length rest < length (before (piece ∷ pieces) rest)
-first_long piece pieces rest some =
+abbrev first : List (List ℕ) → List ℕ
+first [] = []
+first (piece ∷ pieces) = piece
+
+first_long : (pieces : List (List ℕ)) (rest : List ℕ) → 0 < length (first pieces) → length rest < length (before pieces rest)
+first_long [] rest some = omega (arith, some)
+first_long (piece ∷ pieces) rest some =
     let more = before_long pieces rest in
     let sum = length-append piece (before pieces rest) in
     omega (arith, more, sum, some)
 
 head_long : (x : tree.Form) (rest : List ℕ) → length rest < length (before (head_pieces x) rest)
-head_long (tree.Constant to c) rest = first_long (codes "const t") _ rest (omega arith)
-head_long (tree.Copy to from) rest = first_long (codes "copy t") _ rest (omega arith)
-head_long (tree.Do to line o args) rest = first_long (codes "do t") _ rest (omega arith)
-head_long (tree.Call to line function args) rest = first_long (codes "call t") _ rest (omega arith)
-head_long (tree.Yield to line a) rest = first_long (codes "yield t") _ rest (omega arith)
-head_long (tree.If test y n) rest = first_long (codes "if ") _ rest (omega arith)
-head_long (tree.Loop body) rest = first_long (codes "loop\n") _ rest (omega arith)
-head_long (tree.Leave levels) rest = first_long (codes "leave ") _ rest (omega arith)
-head_long (tree.Catch to body handler) rest = first_long (codes "catch t") _ rest (omega arith)
-head_long (tree.Return a) rest = first_long (codes "return ") _ rest (omega arith)
-head_long (tree.Raise a) rest = first_long (codes "raise ") _ rest (omega arith)
-head_long (tree.Unset to) rest = first_long (codes "unset t") _ rest (omega arith)
+head_long (tree.Constant to c) rest = first_long (head_pieces (tree.Constant to c)) rest (omega arith)
+head_long (tree.Copy to from) rest = first_long (head_pieces (tree.Copy to from)) rest (omega arith)
+head_long (tree.Do to line o args) rest = first_long (head_pieces (tree.Do to line o args)) rest (omega arith)
+head_long (tree.Call to line function args) rest = first_long (head_pieces (tree.Call to line function args)) rest (omega arith)
+head_long (tree.Yield to line a) rest = first_long (head_pieces (tree.Yield to line a)) rest (omega arith)
+head_long (tree.If test y n) rest = first_long (head_pieces (tree.If test y n)) rest (omega arith)
+head_long (tree.Loop body) rest = first_long (head_pieces (tree.Loop body)) rest (omega arith)
+head_long (tree.Leave levels) rest = first_long (head_pieces (tree.Leave levels)) rest (omega arith)
+head_long (tree.Catch to body handler) rest = first_long (head_pieces (tree.Catch to body handler)) rest (omega arith)
+head_long (tree.Return a) rest = first_long (head_pieces (tree.Return a)) rest (omega arith)
+head_long (tree.Raise a) rest = first_long (head_pieces (tree.Raise a)) rest (omega arith)
+head_long (tree.Unset to) rest = first_long (head_pieces (tree.Unset to)) rest (omega arith)
 
 pub node_shorter : (indent left behind : List ℕ) (x : tree.Form) (rest : List ℕ) → left ≡ indent ++ behind → NodeStands indent behind x rest → length rest < length left
 node_shorter indent left behind x rest e s =
