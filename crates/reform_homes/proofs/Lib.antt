@@ -1,0 +1,6 @@
+mod Places
+mod Gaining
+mod Standing
+mod Underscore
+mod Temps
+mod Before

@@ -1,0 +1,4 @@
+pub mod Around
+pub mod Assembled
+pub mod Layers
+pub mod Enclosed
